@@ -1,0 +1,91 @@
+-- The sum of the forces from the top row down to a row is the greatest number that no group ending there forbids:
+-- at most what the rows above row i have got and the lowered limit of rows i to k together, for each i, and nothing larger is.
+-- By induction over the rows; no difference wraps, since a lowered limit grows as the group reaches further.
+-- Assumes nothing.
+use mathlib.Core.Path.{_≡_, refl, sym, ap, _∙_}
+use mathlib.Core.Logic.{⊎-elim}
+use Prim.Native.Nat.{ℕ, zero, suc, _+_, _-_, _≤_, _<_}
+use native.Mathlib.Nat.{le-refl, le-trans, le-of-eq, le-suc-iff, add-suc, suc-add, add-zero, add-assoc}
+use native.Mathlib.Omega.{arith}
+use native.Mathlib.Numerals.{add-one}
+use mathlib.Core.List.{List, [], _∷_, _++_}
+use lib.ListN.{length, take, drop, length-append}
+use lib.Seq.{take-append-le, take-all, take-nil}
+use Rattle.sharing.specs.Groups.{Table, total}
+use Rattle.sharing.specs.Sharing.{least, lowered, nextForce, forcesDownTo}
+use Rattle.sharing.proofs.Least.{least-le, le-least}
+use Rattle.sharing.proofs.Totals.{total-snoc, total-cut}
+
+-- What the first k rows have got together.
+unfoldable pub sumDownTo : Table → ℕ → ℕ → ℕ
+sumDownTo limit n k = total (forcesDownTo limit n k)
+
+module _ (limit : Table) (n : ℕ) where
+  pub length-forces : (k : ℕ) → length (forcesDownTo limit n k) ≡ k
+  unfolding forcesDownTo
+  length-forces zero = refl
+  length-forces (suc k) =
+      length-append (forcesDownTo limit n k) _ ∙ ap (λ m. m + 1) (length-forces k) ∙ add-one k
+
+  pub take-forces : (k m : ℕ) → m ≤ k → take m (forcesDownTo limit n k) ≡ forcesDownTo limit n m
+  unfolding forcesDownTo
+  take-forces zero m h = let top : m ≡ 0 = omega arith in rw top
+  take-forces (suc k) m h =
+      ⊎-elim
+      (λ below.
+      let inside : m ≤ length (forcesDownTo limit n k) = rw (length-forces k) below in
+      take-append-le m (forcesDownTo limit n k) _ inside ∙ take-forces k m below)
+      (λ last. rw last (take-all (suc k) _ (le-of-eq (length-forces (suc k)))))
+      (le-suc-iff .0 h)
+
+  -- what rows i to k − 1 have got
+  pub got : (k i : ℕ) → i ≤ k → sumDownTo limit n i + total (drop i (forcesDownTo limit n k)) ≡ sumDownTo limit n k
+  unfolding sumDownTo
+  got k i h = ap (λ xs. total xs + total (drop i (forcesDownTo limit n k))) (sym (take-forces k i h)) ∙ total-cut i _
+
+  -- a limit is lowered, or stays
+  pub lowered-le : (i j : ℕ) → lowered limit n i j ≤ limit i j
+  unfolding lowered
+  lowered-le i j = let own = least-le (λ d. limit i (j + d)) (n - suc j) 0 (omega arith) in rw add-zero at own
+
+  -- a lowered limit grows as the group reaches further
+  pub lowered-grows : (i j : ℕ) → suc j < n → lowered limit n i j ≤ lowered limit n i (suc j)
+  unfolding lowered
+  lowered-grows i j h =
+      le-least _ (n - suc (suc j)) _
+      (λ d hd.
+      let further : suc d ≤ n - suc j = omega arith in
+      le-trans (least-le (λ e. limit i (j + e)) (n - suc j) (suc d) further) (le-of-eq (ap (limit i) (add-suc j d ∙ sym (suc-add j d)))))
+
+  -- the force of row k, with the count of the rows above in the place of their list's length
+  next : (k : ℕ) → nextForce limit n (forcesDownTo limit n k)
+    ≡ least (λ i. lowered limit n i k - total (drop i (forcesDownTo limit n k))) k
+  unfolding nextForce
+  next k = ap (λ m. least (λ i. lowered limit n i m - total (drop i (forcesDownTo limit n k))) m) (length-forces k)
+
+  pub sum-step : (k : ℕ) → sumDownTo limit n (suc k) ≡ sumDownTo limit n k + nextForce limit n (forcesDownTo limit n k)
+  unfolding sumDownTo forcesDownTo
+  sum-step k = total-snoc (forcesDownTo limit n k) _
+
+  sum-le-from : (k i : ℕ) → k < n → i ≤ k → sumDownTo limit n k ≤ sumDownTo limit n i + lowered limit n i k
+    → sumDownTo limit n (suc k) ≤ sumDownTo limit n i + lowered limit n i k
+  sum-le-from k i inside h fits =
+      let force = least-le (λ e. lowered limit n e k - total (drop e (forcesDownTo limit n k))) k i h in
+      let force-le : nextForce limit n (forcesDownTo limit n k) ≤ lowered limit n i k - total (drop i (forcesDownTo limit n k)) = rw (next k) force in
+      omega (arith, sum-step k, got k i h)
+
+  pub sum-le : (k i : ℕ) → k < n → i ≤ k → sumDownTo limit n (suc k) ≤ sumDownTo limit n i + lowered limit n i k
+  sum-le zero i inside h = let top : i ≡ 0 = omega arith in sum-le-from 0 i inside h (rw top (omega arith))
+  sum-le (suc k) i inside h =
+      sum-le-from (suc k) i inside h
+      (⊎-elim
+      (λ below. let above = sum-le k i (omega arith) below in omega (arith, lowered-grows i k inside))
+      (λ last. rw last (omega arith))
+      (le-suc-iff .0 h))
+
+  pub le-sum : (k x : ℕ) → ((i : ℕ) → i ≤ k → x ≤ sumDownTo limit n i + lowered limit n i k) → x ≤ sumDownTo limit n (suc k)
+  le-sum k x below =
+      let rest = le-least (λ i. lowered limit n i k - total (drop i (forcesDownTo limit n k))) k (x - sumDownTo limit n k)
+            (λ i h. let b = below i h in omega (arith, got k i h)) in
+      let force : x - sumDownTo limit n k ≤ nextForce limit n (forcesDownTo limit n k) = rw (next k) rest in
+      omega (arith, sum-step k)

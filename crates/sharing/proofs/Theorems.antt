@@ -1,0 +1,117 @@
+-- The theorems of demand 3 for any count of rows and any table of limits: the shared forces compete, and they are the best.
+-- A list that competes keeps the lowered limits too, since no force is below zero; so each of its sums from the top is one
+-- that no group forbids, and the shared sums are the greatest of those. Assumes nothing.
+use mathlib.Core.Path.{_≡_, refl, sym, ap, _∙_}
+use mathlib.Core.Logic.{⊎-elim, _↔_}
+use Prim.Native.Nat.{ℕ, zero, suc, _+_, _-_, _*_, _≤_, _<_}
+use native.Mathlib.Nat.{le-refl, le-trans, le-of-eq, le-suc-iff, le-antisymm, zero-mul, zero-add}
+use native.Mathlib.Decide.{decLe}
+use native.Mathlib.Omega.{arith}
+use mathlib.Core.List.{List}
+use lib.ListN.{length, take, getD}
+use lib.Seq.{take-all}
+use Rattle.sharing.specs.Groups.{Table, total, groupSum}
+use Rattle.sharing.specs.Sharing.{lowered, forcesDownTo, shared, Competes, moment, Falling}
+use Rattle.sharing.specs.Best.{Best, Monotone}
+use Rattle.sharing.proofs.Least.{le-least}
+use Rattle.sharing.proofs.Totals.{total-take-le, above-and-group}
+use Rattle.sharing.proofs.Sums.{sumDownTo, length-forces, take-forces, lowered-le, sum-le, le-sum}
+use Rattle.sharing.proofs.Moments.{FallsFrom, moment-le, moment-eq}
+
+module _ (limit : Table) (n : ℕ) where
+  -- the sum of the shared forces down to a row
+  pub sum-shared : (k : ℕ) → k ≤ n → total (take k (shared limit n)) ≡ sumDownTo limit n k
+  unfolding shared sumDownTo
+  sum-shared k h = ap total (take-forces limit n n k h)
+
+  pub shared-competes : Competes limit n (shared limit n)
+  unfolding shared
+  shared-competes =
+      record {
+        rows = length-forces limit n n;
+        keeps = λ i j h inside.
+          let sum = above-and-group (shared limit n) i j h in
+          omega (arith, sum-shared i (omega arith), sum-shared (suc j) inside, sum-le limit n j i inside h, lowered-le limit n i j)
+      }
+
+  module _ (other : List ℕ) (c : Competes limit n other) where
+    -- a list that competes keeps the lowered limits
+    keeps-lowered : (i j : ℕ) → i ≤ j → j < n → groupSum other i j ≤ lowered limit n i j
+    unfolding lowered
+    keeps-lowered i j h inside =
+        le-least (λ d. limit i (j + d)) (n - suc j) _
+        (λ d hd.
+        let short = above-and-group other i j h in
+        let long = above-and-group other i (j + d) (omega arith) in
+        let grows = total-take-le other (suc j) d in
+        let same : suc j + d ≡ suc (j + d) = omega arith in
+        let kept = c .keeps i (j + d) (omega arith) (omega arith) in
+        omega (arith, ap (λ k. total (take k other)) same))
+
+    -- down to row k, and to each row above it
+    sum-le-inside : (k m : ℕ) → m ≤ k → m ≤ n → total (take m other) ≤ sumDownTo limit n m
+    sum-le-inside zero m h inside = let top : m ≡ 0 = omega arith in rw top (omega arith)
+    sum-le-inside (suc k) m h inside =
+        ⊎-elim
+        (λ below. sum-le-inside k m below inside)
+        (λ last. rw last
+        (le-sum limit n k _
+        (λ i hi.
+        let above = sum-le-inside k i hi (omega arith) in
+        let group = keeps-lowered i k hi (omega arith) in
+        omega (arith, above-and-group other i k hi))))
+        (le-suc-iff .0 h)
+
+    pub sum-le-shared : (k : ℕ) → total (take k other) ≤ total (take k (shared limit n))
+    sum-le-shared k =
+        elim (decLe k n) [
+          yes h ↦ rw (sum-shared k h) (sum-le-inside k k (le-refl k) h)
+        | no h ↦
+          let past : n ≤ k = omega arith in
+          let whole = sum-le-inside n n (le-refl n) (le-refl n) in
+          let mine = take-all k (shared limit n) (omega (arith, shared-competes .rows)) in
+          let others = take-all k other (omega (arith, c .rows)) in
+          let mine-n = take-all n (shared limit n) (omega (arith, shared-competes .rows)) in
+          let others-n = take-all n other (omega (arith, c .rows)) in
+          omega (arith, ap total mine, ap total others, ap total mine-n, ap total others-n, sum-shared n (le-refl n))
+        ]
+
+    module _ (levers : List ℕ) (f : Falling levers n) where
+      from-above : FallsFrom (suc (getD levers 0 0)) levers
+      from-above =
+          record {
+            first = λ h. omega arith;
+            falls = λ k h. f .falls k (omega (arith, f .rows));
+            positive = omega arith;
+            positives = λ k h. f .positive k (omega (arith, f .rows))
+          }
+
+      ahead : (k : ℕ) → total (take k other) ≤ 0 + total (take k (shared limit n))
+      ahead k = rw zero-add (sum-le-shared k)
+
+      pub moment-le-shared : moment levers other ≤ moment levers (shared limit n)
+      moment-le-shared =
+          let m = moment-le levers (shared limit n) other 0 _ from-above (shared-competes .rows ∙ sym (f .rows)) (c .rows ∙ sym (f .rows)) ahead in
+          omega (arith, zero-mul (suc (getD levers 0 0)))
+
+      pub same-exactly : (other ≡ shared limit n) ↔ (moment levers other ≡ moment levers (shared limit n))
+      same-exactly =
+          (
+            (λ e. ap (moment levers) e),
+            (λ e. moment-eq levers (shared limit n) other 0 _ from-above (shared-competes .rows ∙ sym (f .rows)) (c .rows ∙ sym (f .rows)) ahead
+              (omega (arith, e, zero-mul (suc (getD levers 0 0)))) .1),
+          )
+
+  pub best : Best limit n (shared limit n)
+  best =
+      record {
+        competes = shared-competes;
+        sums = sum-le-shared;
+        moments = λ levers f other c. moment-le-shared other c levers f;
+        same = λ levers f other c. same-exactly other c levers f;
+        fails = λ levers f passes m.
+          (
+            (λ fail other c pass. fail (m .larger _ _ (moment-le-shared other c levers f) pass)),
+            (λ all. all (shared limit n) shared-competes),
+          )
+      }

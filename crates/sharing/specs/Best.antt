@@ -1,0 +1,29 @@
+-- What it means that no other list of row forces does better: demand 3 for a table of limits.
+-- Assumes nothing.
+use mathlib.Core.Path.{_≡_}
+use mathlib.Core.Logic.{_↔_}
+use Prim.Native.Nat.{ℕ, _≤_}
+use mathlib.Core.List.{List}
+use lib.ListN.{take}
+use Rattle.sharing.specs.Groups.{Table, total}
+use Rattle.sharing.specs.Sharing.{Competes, Falling, moment}
+
+-- A test of moments that a larger moment passes whenever a smaller one does.
+pub record Monotone (passes : ℕ → Type 0) : Type 1 where
+  pub larger : (small large : ℕ) → small ≤ large → passes small → passes large
+
+pub record Best (limit : Table) (n : ℕ) (forces : List ℕ) : Type 1 where
+  -- the list competes
+  pub competes : Competes limit n forces
+  -- for whatever list competes, the sum from the top row down to any row is at most this list's
+  pub sums : (other : List ℕ) → Competes limit n other → (k : ℕ) → total (take k other) ≤ total (take k forces)
+  -- its moment is at most this list's
+  pub moments : (levers : List ℕ) → Falling levers n → (other : List ℕ) → Competes limit n other
+    → moment levers other ≤ moment levers forces
+  -- it equals this list exactly when the moments are equal
+  pub same : (levers : List ℕ) → Falling levers n → (other : List ℕ) → Competes limit n other
+    → (other ≡ forces) ↔ (moment levers other ≡ moment levers forces)
+  -- this list fails a test exactly when every list that competes fails it
+  pub fails : (levers : List ℕ) → Falling levers n → (passes : ℕ → Type 0) → Monotone passes
+    → (passes (moment levers forces) → ⊥)
+    ↔ ((other : List ℕ) → Competes limit n other → passes (moment levers other) → ⊥)

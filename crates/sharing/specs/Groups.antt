@@ -1,0 +1,38 @@
+-- Row groups and tables of their limits (document 01, 'Group limits' and 'Allocate').
+-- Rows count from 0 here and in the code, from 1 in document 01 and in print: group 1–3 there is rows 0 to 2 here.
+-- Assumes nothing.
+use Prim.Native.Nat.{ℕ, zero, suc, _+_, _-_, _*_, _/_, min}
+use mathlib.Core.Bool.{cond, _&&_}
+use mathlib.Core.List.{List, [], _∷_}
+use lib.ListN.{getD, take, drop}
+use lib.Dec.{eqb}
+
+-- The limit, in newtons, of the group of rows i to j.
+abbrev pub Table : Type 0
+Table = ℕ → ℕ → ℕ
+
+abbrev pub total : List ℕ → ℕ
+total [] = 0
+total (x ∷ xs) = x + total xs
+
+-- What a list's forces on rows i to j add up to.
+unfoldable pub groupSum : List ℕ → ℕ → ℕ → ℕ
+groupSum forces i j = total (take (suc j - i) (drop i forces))
+
+-- 'The cap joins the limits as one on group 1 to n.'
+unfoldable pub joined : Table → ℕ → ℕ → Table
+joined limit n cap i j = cond (eqb i 0 && eqb (suc j) n) (min (limit i j) cap) (limit i j)
+
+-- 'Group 1–1, 1–2, .. 1–n, 2–2 and so on': how many groups stand before those that begin at row i.
+unfoldable pub groupsAbove : ℕ → ℕ → ℕ
+groupsAbove n zero = 0
+groupsAbove n (suc i) = groupsAbove n i + (n - i)
+
+-- 'n(n+1)÷2'
+unfoldable pub groupCount : ℕ → ℕ
+groupCount n = n * (n + 1) / 2
+
+-- The table that a list of limits in that order is.
+unfoldable pub listed : ℕ → List ℕ → Table
+unfolding groupsAbove
+listed n limits i j = getD limits (groupsAbove n i + (j - i)) 0

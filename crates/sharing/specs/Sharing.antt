@@ -1,0 +1,58 @@
+-- How limits become row forces, which lists of forces compete, and the moment of a list (document 01, 'Sharing the force').
+-- Every definition is over any count of rows n, 0 among them.
+-- Assumes nothing.
+use mathlib.Core.Path.{_≡_}
+use Prim.Native.Nat.{ℕ, zero, suc, _+_, _-_, _*_, _/_, _≤_, _<_, min}
+use mathlib.Core.List.{List, [], _∷_, _++_}
+use lib.ListN.{length, getD, drop}
+use Rattle.sharing.specs.Groups.{Table, total, groupSum}
+
+-- The least of f 0, f 1, .. f k.
+unfoldable pub least : (ℕ → ℕ) → ℕ → ℕ
+least f zero = f 0
+least f (suc k) = min (least f k) (f (suc k))
+
+-- 'A limit is first lowered to the least limit of any group that begins at the same row and reaches at least as far':
+-- 0, 1, .. rows further, up to the last of n rows.
+unfoldable pub lowered : Table → ℕ → Table
+unfolding least
+lowered limit n i j = least (λ further. limit i (j + further)) (n - suc j)
+
+-- 'Each row gets the least, over groups ending at it, of the lowered limit less what the group's rows above have got.'
+-- `above` is what the rows above have got; the groups i to `length above` end at the next row.
+unfoldable pub nextForce : Table → ℕ → List ℕ → ℕ
+unfolding least lowered
+nextForce limit n above = least (λ i. lowered limit n i (length above) - total (drop i above)) (length above)
+
+-- 'From the top': the forces of the first k of n rows.
+unfoldable pub forcesDownTo : Table → ℕ → ℕ → List ℕ
+unfolding nextForce
+forcesDownTo limit n zero = []
+forcesDownTo limit n (suc k) = forcesDownTo limit n k ++ (nextForce limit n (forcesDownTo limit n k) ∷ [])
+
+-- The forces of all n rows.
+unfoldable pub shared : Table → ℕ → List ℕ
+unfolding forcesDownTo
+shared limit n = forcesDownTo limit n n
+
+-- 'A list competes when it has one force for each row, in whole newtons, none below zero; when for every group i to j its
+-- forces on rows i to j add up to at most that group's limit, before any lowering.'
+pub record Competes (limit : Table) (n : ℕ) (forces : List ℕ) : Type 0 where
+  pub rows : length forces ≡ n
+  pub keeps : (i j : ℕ) → i ≤ j → j < n → groupSum forces i j ≤ limit i j
+
+-- 'Moment Z of a list = sum of force × lever.'
+unfoldable pub moment : List ℕ → List ℕ → ℕ
+moment [] forces = 0
+moment (lever ∷ levers) [] = 0
+moment (lever ∷ levers) (force ∷ forces) = force * lever + moment levers forces
+
+-- 'Reported in newton metres, Z÷10000.'
+unfoldable pub newtonMetres : ℕ → ℕ
+newtonMetres z = z / 10000
+
+-- One lever for each row, each below the one above it, and none below 1.
+pub record Falling (levers : List ℕ) (n : ℕ) : Type 0 where
+  pub rows : length levers ≡ n
+  pub falls : (k : ℕ) → suc k < n → getD levers (suc k) 0 < getD levers k 0
+  pub positive : (k : ℕ) → k < n → 1 ≤ getD levers k 0
