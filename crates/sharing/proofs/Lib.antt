@@ -1,4 +1,6 @@
 pub mod Least
+pub mod Lowering
+pub mod Places
 pub mod Totals
 pub mod Sums
 pub mod Moments

@@ -5,15 +5,16 @@
 use mathlib.Core.Path.{_≡_, refl, sym, ap, _∙_}
 use mathlib.Core.Logic.{⊎-elim}
 use Prim.Native.Nat.{ℕ, zero, suc, _+_, _-_, _≤_, _<_}
-use native.Mathlib.Nat.{le-refl, le-trans, le-of-eq, le-suc-iff, add-suc, suc-add, add-zero, add-assoc}
+use native.Mathlib.Nat.{le-of-eq, le-suc-iff}
 use native.Mathlib.Omega.{arith}
 use native.Mathlib.Numerals.{add-one}
 use mathlib.Core.List.{List, [], _∷_, _++_}
 use lib.ListN.{length, take, drop, length-append}
-use lib.Seq.{take-append-le, take-all, take-nil}
+use lib.Seq.{take-append-le, take-all}
 use Rattle.sharing.specs.Groups.{Table, total}
 use Rattle.sharing.specs.Sharing.{least, lowered, nextForce, forcesDownTo}
 use Rattle.sharing.proofs.Least.{least-le, le-least}
+use Rattle.sharing.proofs.Lowering.{lowered-grows}
 use Rattle.sharing.proofs.Totals.{total-snoc, total-cut}
 
 -- What the first k rows have got together.
@@ -43,20 +44,6 @@ module _ (limit : Table) (n : ℕ) where
   unfolding sumDownTo
   got k i h = ap (λ xs. total xs + total (drop i (forcesDownTo limit n k))) (sym (take-forces k i h)) ∙ total-cut i _
 
-  -- a limit is lowered, or stays
-  pub lowered-le : (i j : ℕ) → lowered limit n i j ≤ limit i j
-  unfolding lowered
-  lowered-le i j = let own = least-le (λ d. limit i (j + d)) (n - suc j) 0 (omega arith) in rw add-zero at own
-
-  -- a lowered limit grows as the group reaches further
-  pub lowered-grows : (i j : ℕ) → suc j < n → lowered limit n i j ≤ lowered limit n i (suc j)
-  unfolding lowered
-  lowered-grows i j h =
-      le-least _ (n - suc (suc j)) _
-      (λ d hd.
-      let further : suc d ≤ n - suc j = omega arith in
-      le-trans (least-le (λ e. limit i (j + e)) (n - suc j) (suc d) further) (le-of-eq (ap (limit i) (add-suc j d ∙ sym (suc-add j d)))))
-
   -- the force of row k, with the count of the rows above in the place of their list's length
   next : (k : ℕ) → nextForce limit n (forcesDownTo limit n k)
     ≡ least (λ i. lowered limit n i k - total (drop i (forcesDownTo limit n k))) k
@@ -79,7 +66,7 @@ module _ (limit : Table) (n : ℕ) where
   sum-le (suc k) i inside h =
       sum-le-from (suc k) i inside h
       (⊎-elim
-      (λ below. let above = sum-le k i (omega arith) below in omega (arith, lowered-grows i k inside))
+      (λ below. let above = sum-le k i (omega arith) below in omega (arith, lowered-grows limit n i k inside))
       (λ last. rw last (omega arith))
       (le-suc-iff .0 h))
 

@@ -3,6 +3,7 @@
 -- that no group forbids, and the shared sums are the greatest of those. Assumes nothing.
 use mathlib.Core.Path.{_≡_, refl, sym, ap, _∙_}
 use mathlib.Core.Logic.{⊎-elim, _↔_}
+use mathlib.Core.Bool.{Bool, true, false}
 use Prim.Native.Nat.{ℕ, zero, suc, _+_, _-_, _*_, _≤_, _<_}
 use native.Mathlib.Nat.{le-refl, le-trans, le-of-eq, le-suc-iff, le-antisymm, zero-mul, zero-add}
 use native.Mathlib.Decide.{decLe}
@@ -15,7 +16,8 @@ use Rattle.sharing.specs.Sharing.{lowered, forcesDownTo, shared, Compete
 use Rattle.sharing.specs.Best.{Best, Monotone}
 use Rattle.sharing.proofs.Least.{le-least}
 use Rattle.sharing.proofs.Totals.{total-take-le, above-and-group}
-use Rattle.sharing.proofs.Sums.{sumDownTo, length-forces, take-forces, lowered-le, sum-le, le-sum}
+use Rattle.sharing.proofs.Lowering.{lowered-le}
+use Rattle.sharing.proofs.Sums.{sumDownTo, length-forces, take-forces, sum-le, le-sum}
 use Rattle.sharing.proofs.Moments.{FallsFrom, moment-le, moment-eq}
 
 module _ (limit : Table) (n : ℕ) where
@@ -102,6 +104,10 @@ module _ (limit : Table) (n : ℕ) where
               (omega (arith, e, zero-mul (suc (getD levers 0 0)))) .1),
           )
 
+  not-passed : (smaller larger : Bool) → (smaller ≡ true → larger ≡ true) → larger ≡ false → smaller ≡ false
+  not-passed true larger up fail = sym (up refl) ∙ fail
+  not-passed false larger up fail = refl
+
   pub best : Best limit n (shared limit n)
   best =
       record {
@@ -111,7 +117,8 @@ module _ (limit : Table) (n : ℕ) where
         same = λ levers f other c. same-exactly other c levers f;
         fails = λ levers f passes m.
           (
-            (λ fail other c pass. fail (m .larger _ _ (moment-le-shared other c levers f) pass)),
+            (λ fail other c. not-passed (passes (moment levers other)) (passes (moment levers (shared limit n)))
+              (m .larger _ _ (moment-le-shared other c levers f)) fail),
             (λ all. all (shared limit n) shared-competes),
           )
       }

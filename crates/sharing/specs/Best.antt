@@ -2,6 +2,7 @@
 -- Assumes nothing.
 use mathlib.Core.Path.{_≡_}
 use mathlib.Core.Logic.{_↔_}
+use mathlib.Core.Bool.{Bool, true, false}
 use Prim.Native.Nat.{ℕ, _≤_}
 use mathlib.Core.List.{List}
 use lib.ListN.{take}
@@ -9,10 +10,10 @@ use Rattle.sharing.specs.Groups.{Table, total}
 use Rattle.sharing.specs.Sharing.{Competes, Falling, moment}
 
 -- A test of moments that a larger moment passes whenever a smaller one does.
-pub record Monotone (passes : ℕ → Type 0) : Type 1 where
-  pub larger : (small large : ℕ) → small ≤ large → passes small → passes large
+pub record Monotone (passes : ℕ → Bool) : Type 0 where
+  pub larger : (small large : ℕ) → small ≤ large → passes small ≡ true → passes large ≡ true
 
-pub record Best (limit : Table) (n : ℕ) (forces : List ℕ) : Type 1 where
+pub record Best (limit : Table) (n : ℕ) (forces : List ℕ) : Type 0 where
   -- the list competes
   pub competes : Competes limit n forces
   -- for whatever list competes, the sum from the top row down to any row is at most this list's
@@ -24,6 +25,6 @@ pub record Best (limit : Table) (n : ℕ) (forces : List ℕ) : Type 1 where
   pub same : (levers : List ℕ) → Falling levers n → (other : List ℕ) → Competes limit n other
     → (other ≡ forces) ↔ (moment levers other ≡ moment levers forces)
   -- this list fails a test exactly when every list that competes fails it
-  pub fails : (levers : List ℕ) → Falling levers n → (passes : ℕ → Type 0) → Monotone passes
-    → (passes (moment levers forces) → ⊥)
-    ↔ ((other : List ℕ) → Competes limit n other → passes (moment levers other) → ⊥)
+  pub fails : (levers : List ℕ) → Falling levers n → (passes : ℕ → Bool) → Monotone passes
+    → (passes (moment levers forces) ≡ false)
+    ↔ ((other : List ℕ) → Competes limit n other → passes (moment levers other) ≡ false)

@@ -1,0 +1,4 @@
+pub mod Answers
+pub mod Bound
+pub mod Counting
+pub mod Rows

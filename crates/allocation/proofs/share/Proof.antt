@@ -1,0 +1,94 @@
+-- `share` meets its contract: each turn gives one row its force (the law `turn`). The measure is how many rows are left.
+-- Assumes nothing.
+use mathlib.Core.Path.{_≡_, refl, sym, _∙_}
+use Prim.Native.Nat.{_-_, _≤_}
+use native.Mathlib.Omega.{arith}
+use borrow.Author.Needs.{needs}
+use Rattle.sharing.proofs.Places.{groups-inside}
+use Rattle.allocation.proofs.Rows.{SharedDownTo, sum-le-most, start, down-grows, turn, finish}
+use Rattle.allocation.proofs.share.Statement.{statement}
+use Rattle.allocation.proofs.share.Tie as tie
+use Rattle.allocation.proofs.share.Reads as reads
+use Rattle.allocation.proofs.share.Lts as lts
+use Rattle.allocation.proofs.count_groups.Reads as count-groups-reads
+
+abbrev Inv-loop : tie.InvT-loop
+Inv-loop count limits forces₀ sums₀ above₀ first₀ row₀ forces sums above first row =
+    SharedDownTo count limits forces sums above first row
+
+abbrev μ-loop : tie.MeasureT-loop
+μ-loop count limits forces₀ sums₀ above₀ first₀ row₀ forces sums above first row = count - row
+
+loop-holds : tie.Need-loop-holds Inv-loop μ-loop
+loop-holds c = start _ _ (c .before .pre)
+
+count-groups-requires : tie.Need-count-groups-requires Inv-loop μ-loop
+count-groups-requires c κs =
+    let s = c .before .before .before .before in
+    let l = c .before .before .loop in
+    (
+      s .pre,
+      (c .before .loop-test .taken, l .inv .place, omega (arith, l .inv .sum, sum-le-most _ _ (s .pre) (l .row) (l .inv .rows)), omega (arith, l .inv .size, s .pre .rows)),
+    )
+
+mul-down : tie.Need-mul-down Inv-loop μ-loop
+mul-down c = omega arith
+
+array-read-down : tie.Need-array-read-down Inv-loop μ-loop
+array-read-down c = omega arith
+
+sub-forces : tie.Need-sub-forces Inv-loop μ-loop
+sub-forces c =
+    let s = c .before .before .before .before .before in
+    let l = c .before .before .before .loop in
+    down-grows _ _ (s .pre) _ _ _ _ _ (l .inv) (c .before .before .loop-test .taken) _ (c .count-groups .ensures)
+
+mul-forces : tie.Need-mul-forces Inv-loop μ-loop
+mul-forces c = omega arith
+
+array-write-forces : tie.Need-array-write-forces Inv-loop μ-loop
+array-write-forces c = omega arith
+
+sub-first : tie.Need-sub-first Inv-loop μ-loop
+sub-first c = omega arith
+
+add-first : tie.Need-add-first Inv-loop μ-loop
+add-first c =
+    let s = c .before .before .before .before .before in
+    let l = c .before .before .before .loop in
+    omega (arith, l .inv .place, groups-inside (s .args .count) (l .row) (c .before .before .loop-test .taken), s .pre .enough)
+
+add-row : tie.Need-add-row Inv-loop μ-loop
+add-row c = omega arith
+
+loop-less : tie.Need-loop-less Inv-loop μ-loop
+loop-less c = omega arith
+
+loop-again : tie.Need-loop-again Inv-loop μ-loop
+loop-again c =
+    let s = c .before .before .before .before .before in
+    let l = c .before .before .before .loop in
+    turn _ _ (s .pre) _ _ _ _ _ (l .inv) (c .before .before .loop-test .taken) _ (c .count-groups .ensures)
+
+returns : tie.Need-returns Inv-loop μ-loop
+returns c = finish _ _ (c .before .before .before .pre) _ _ _ _ _ (c .before .loop .inv) (c .loop-test .left)
+
+pub share-spec : {M : Type 1} → statement M
+share-spec =
+    tie.close
+    (tie.spec
+    Inv-loop
+    μ-loop
+    loop-holds
+    count-groups-requires
+    mul-down
+    array-read-down
+    sub-forces
+    mul-forces
+    array-write-forces
+    sub-first
+    add-first
+    add-row
+    loop-less
+    loop-again
+    returns)
