@@ -54,7 +54,8 @@ pub fn share(count: usize, limits: &[u64]) -> [u64; 8]
     while row < count {
         count_groups(&mut sums, limits, first, row, count, above);
         let down = sums[row];
-        forces[row] = down - above;
+        let force = down - above;
+        forces[row] = force;
         above = down;
         first += count - row;
         row += 1;

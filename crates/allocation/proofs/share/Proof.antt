@@ -37,11 +37,11 @@ mul-down c = omega arith
 array-read-down : tie.Need-array-read-down Inv-loop μ-loop
 array-read-down c = omega arith
 
-sub-forces : tie.Need-sub-forces Inv-loop μ-loop
-sub-forces c =
+sub-force : tie.Need-sub-force Inv-loop μ-loop
+sub-force c =
     let s = c .before .before .before .before .before in
     let l = c .before .before .before .loop in
-    down-grows _ _ (s .pre) _ _ _ _ _ (l .inv) (c .before .before .loop-test .taken) _ (c .count-groups .ensures)
+    omega (arith, down-grows _ _ (s .pre) _ _ _ _ _ (l .inv) (c .before .before .loop-test .taken) _ (c .count-groups .ensures))
 
 mul-forces : tie.Need-mul-forces Inv-loop μ-loop
 mul-forces c = omega arith
@@ -83,7 +83,7 @@ share-spec =
     count-groups-requires
     mul-down
     array-read-down
-    sub-forces
+    sub-force
     mul-forces
     array-write-forces
     sub-first
