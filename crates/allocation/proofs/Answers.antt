@@ -10,7 +10,8 @@ use lib.ListN.{length, getD, take, replicate}
 use lib.Seq.{take-at, length-take-le, getD-take}
 use lib.Dec.{leb, ltb}
 use borrow.Author.Tests.{lt-ltb, le-ltb, leb-true, not-false}
-use Rattle.joint.specs.Rows.{rowCount}
+use Rattle.arithmetic.specs.Range.{within}
+use Rattle.joint.specs.Ranges.{rowCounts}
 use Rattle.sharing.specs.Groups.{groupCount, listed}
 use Rattle.sharing.specs.Sharing.{shared}
 use Rattle.sharing.specs.Best.{Best}
@@ -20,14 +21,14 @@ use Rattle.allocation.specs.Allocation.{noneAbove, eightPlaces, refusedB
 use Rattle.allocation.specs.Steps.{Shareable}
 use Rattle.allocation.proofs.Bound.{both, each-within}
 
-pub at-most-eight : (n : ℕ) (rows : Bool) → rows ≡ rowCount n → not rows ≡ false → n ≤ 8
+pub at-most-eight : (n : ℕ) (rows : Bool) → rows ≡ within rowCounts n → not rows ≡ false → n ≤ 8
 at-most-eight n rows er ok = leb-true n 8 (both (leb 1 n) (leb n 8) (sym er ∙ not-false rows ok) .1)
 
 -- n(n+1) of at most eight rows
 pub product-le : (n : ℕ) → n ≤ 8 → n * (n + 1) ≤ 72
 product-le n h = mul-le-mul {n₂ = 8} {m₂ = 9} h (omega arith)
 
-module _ (n : ℕ) (limits : List ℕ) (rows : Bool) (er : rows ≡ rowCount n) where
+module _ (n : ℕ) (limits : List ℕ) (rows : Bool) (er : rows ≡ within rowCounts n) where
   pub refused-by-3 : not rows ≡ true → refusedBy 3 ≡ allocated n limits
   unfolding allocated
   refused-by-3 bad = rw (← er, bad)
@@ -52,9 +53,9 @@ module _ (n : ℕ) (limits : List ℕ) (rows : Bool) (er : rows ≡ rowCount n) 
             rows = at-most-eight n rows er ok;
             enough = enough;
             bounded = λ k h.
-              let within = each-within 4000000000 (take (groupCount n) limits) (sym en ∙ not-false none small) k
+              let small-one = each-within 4000000000 (take (groupCount n) limits) (sym en ∙ not-false none small) k
                     (rw (length-take-le (groupCount n) limits enough) h) in
-              rw (getD-take (groupCount n) limits k 0 h) at within
+              rw (getD-take (groupCount n) limits k 0 h) at small-one
           }
 
 -- an answer that is no refusal has the best forces
@@ -76,4 +77,4 @@ module _ (n : ℕ) (limits : List ℕ) where
     → Best (listed n limits) n (take n (answer .forces))
   unfolding allocated
   no-refusal-is-best answer e z =
-      best-of (not (rowCount n)) (ltb (length limits) (groupCount n)) (not (noneAbove 4000000000 (take (groupCount n) limits))) answer e z
+      best-of (not (within rowCounts n)) (ltb (length limits) (groupCount n)) (not (noneAbove 4000000000 (take (groupCount n) limits))) answer e z

@@ -5,7 +5,8 @@ use mathlib.Core.Bool.{Bool, true, false, cond, not, _&&_}
 use mathlib.Core.List.{List, [], _∷_, _++_}
 use lib.ListN.{length, take, replicate}
 use lib.Dec.{leb, ltb}
-use Rattle.joint.specs.Rows.{rowCount}
+use Rattle.arithmetic.specs.Range.{within}
+use Rattle.joint.specs.Ranges.{rowCounts}
 use Rattle.sharing.specs.Groups.{groupCount, listed}
 use Rattle.sharing.specs.Sharing.{shared}
 use Rattle.allocation.specs.declared.Allocation.{Allocation}
@@ -28,7 +29,7 @@ refusedBy number = record { refusal = number; forces = replicate 8 0 }
 unfoldable pub allocated : ℕ → List ℕ → Allocation
 unfolding eightPlaces noneAbove
 allocated n limits =
-    cond (not (rowCount n)) (refusedBy 3)
+    cond (not (within rowCounts n)) (refusedBy 3)
     (cond (ltb (length limits) (groupCount n)) (refusedBy 7)
     (cond (not (noneAbove 4000000000 (take (groupCount n) limits))) (refusedBy 8)
     (record { refusal = 0; forces = eightPlaces (shared (listed n limits) n) })))

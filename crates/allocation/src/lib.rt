@@ -3,7 +3,8 @@
 ghost use mathlib.Core.Path.{_≡_};
 ghost use Prim.Native.Nat.{ℕ, _+_, _≤_, _<_, min};
 ghost use lib.ListN.{length, take};
-ghost use Rattle.joint.specs.Rows.{rowCount};
+ghost use Rattle.arithmetic.specs.Range.{within};
+ghost use Rattle.joint.specs.Ranges.{rowCounts};
 ghost use Rattle.sharing.specs.Groups.{groupsAbove, listed};
 ghost use Rattle.sharing.specs.Sharing.{shared};
 ghost use Rattle.sharing.specs.Best.{Best};
@@ -104,7 +105,7 @@ fn none_above(limits: &[u64], most: u64) -> bool
 
 // Refusal 3's question.
 fn row_count(count: usize) -> bool
-    ensures { λ r. ⌜ r ≡ rowCount count ⌝ }
+    ensures { λ r. ⌜ r ≡ within rowCounts count ⌝ }
 {
     (1 <= count) & (count <= 8)
 }

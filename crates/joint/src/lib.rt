@@ -1,6 +1,13 @@
 // A joint: a beam on a column flange through an end plate. The fields are grouped by what a second beam on the other
 // face would share. Each comment gives document 01's field number and unit; lengths are in tenths of a millimetre.
 ghost use mathlib.Core.Path.{_≡_};
+ghost use Prim.Native.Nat.{_+_};
+ghost use mathlib.Core.Bool.{cond, _&&_};
+ghost use mathlib.Core.List.{[], _∷_};
+ghost use Rattle.arithmetic.specs.Range.{within, _to_};
+ghost use Rattle.arithmetic.specs.Table.{oneOf};
+ghost use Rattle.joint.specs.Ranges.{grades};
+ghost use Rattle.joint.specs.Fields.{fieldCheck, firstOutside, after, headFields, gradeFields, columnFields, beamFields, plateFields, weldFields, loadFields, leverFields};
 
 // Fields 5 and 8 to 13.
 pub struct Column {
@@ -103,4 +110,166 @@ pub struct Joint {
     pub column: Column,
     pub bolts: Bolts,
     pub face: Face,
+}
+
+// What checking a joint's fields finds: document 01's refusal 10 is `Outside`, with the first such field's number.
+pub enum FieldCheck {
+    AllInRange,
+    Outside(u32),
+}
+
+// Checks every field of a joint, in file order.
+pub fn check_fields(joint: Joint) -> FieldCheck
+    ensures { λ r. ⌜ r ≡ fieldCheck joint ⌝ }
+{
+    let column = joint.column;
+    let face = joint.face;
+    let beam = face.beam;
+    let plate = face.plate;
+    let levers = face.levers;
+    let head = check_head(face.rows, face.extended, joint.bolts);
+    let grades = check_grades(head, column.grade, beam.grade, plate.grade);
+    let sections = check_beam(check_column(grades, column), beam);
+    let layout = check_plate(sections, face.extended, plate, face.layout);
+    let welds = check_welds(layout, face.welds, face.shear_rows);
+    check_levers(check_loads(welds, face.loads), face.rows, levers)
+}
+
+// What was found before; else this field's number, unless it holds.
+fn keep(found: FieldCheck, number: u32, holds: bool) -> FieldCheck
+    ensures { λ r. ⌜ r ≡ after found ((number, holds) ∷ []) ⌝ }
+{
+    match found {
+        FieldCheck::Outside(field) => FieldCheck::Outside(field),
+        FieldCheck::AllInRange => {
+            if holds {
+                FieldCheck::AllInRange
+            } else {
+                FieldCheck::Outside(number)
+            }
+        }
+    }
+}
+
+// A field that goes from low to high.
+fn ranged(found: FieldCheck, number: u32, value: u32, low: u32, high: u32) -> FieldCheck
+    ensures { λ r. ⌜ r ≡ after found ((number, within (low to high) value) ∷ []) ⌝ }
+{
+    keep(found, number, (low <= value) & (value <= high))
+}
+
+// A field that is a steel grade.
+fn graded(found: FieldCheck, number: u32, grade: u32) -> FieldCheck
+    ensures { λ r. ⌜ r ≡ after found ((number, oneOf grades grade) ∷ []) ⌝ }
+{
+    keep(found, number, (grade == 275) | (grade == 355))
+}
+
+// Fields 1 to 4.
+fn check_head(rows: u32, extended: u32, bolts: Bolts) -> FieldCheck
+    ensures { λ r. ⌜ r ≡ firstOutside (headFields rows extended bolts) ⌝ }
+{
+    let class = bolts.class;
+    let d = bolts.diameter;
+    let count = ranged(FieldCheck::AllInRange, 1, rows, 1, 8);
+    let flag = ranged(count, 2, extended, 0, 1);
+    let bolt = keep(flag, 3, (class == 46) | (class == 88) | (class == 109));
+    keep(
+        bolt,
+        4,
+        (d == 12) | (d == 16) | (d == 20) | (d == 24) | (d == 30),
+    )
+}
+
+// Fields 5 to 7.
+fn check_grades(found: FieldCheck, column: u32, beam: u32, plate: u32) -> FieldCheck
+    ensures { λ r. ⌜ r ≡ after found (gradeFields column beam plate) ⌝ }
+{
+    graded(graded(graded(found, 5, column), 6, beam), 7, plate)
+}
+
+// Fields 8 to 13.
+fn check_column(found: FieldCheck, column: Column) -> FieldCheck
+    ensures { λ r. ⌜ r ≡ after found (columnFields column) ⌝ }
+{
+    let depth = ranged(found, 8, column.depth, 1000, 15000);
+    let width = ranged(depth, 9, column.width, 500, 6000);
+    let flange = ranged(width, 10, column.flange, 40, 500);
+    let web = ranged(flange, 11, column.web, 30, 400);
+    let root = ranged(web, 12, column.root, 0, 400);
+    ranged(root, 13, column.clear, 500, 14000)
+}
+
+// Fields 14 to 17.
+fn check_beam(found: FieldCheck, beam: Beam) -> FieldCheck
+    ensures { λ r. ⌜ r ≡ after found (beamFields beam) ⌝ }
+{
+    let depth = ranged(found, 14, beam.depth, 1000, 15000);
+    let width = ranged(depth, 15, beam.width, 500, 6000);
+    let flange = ranged(width, 16, beam.flange, 40, 500);
+    ranged(flange, 17, beam.web, 30, 400)
+}
+
+// Fields 18 to 22. The edge distance is 0 on a flush plate.
+fn check_plate(found: FieldCheck, extended: u32, plate: Plate, layout: Layout) -> FieldCheck
+    ensures { λ r. ⌜ r ≡ after found (plateFields extended plate layout) ⌝ }
+{
+    let width = ranged(found, 18, plate.width, 500, 6000);
+    let thickness = ranged(width, 19, plate.thickness, 60, 500);
+    let gauge = ranged(thickness, 20, layout.gauge, 300, 3000);
+    let flush = extended == 0;
+    let edge = ranged(
+        gauge,
+        21,
+        layout.edge,
+        chosen(flush, 0, 150),
+        chosen(flush, 0, 2000),
+    );
+    ranged(edge, 22, layout.alpha, 400, 800)
+}
+
+// Fields 23 to 26.
+fn check_welds(found: FieldCheck, welds: Welds, shear_rows: u32) -> FieldCheck
+    ensures { λ r. ⌜ r ≡ after found (weldFields welds «shear_rows») ⌝ }
+{
+    let flange = ranged(found, 23, welds.flange, 30, 250);
+    let web = ranged(flange, 24, welds.web, 30, 250);
+    let length = ranged(web, 25, welds.length, 0, 15000);
+    ranged(length, 26, shear_rows, 0, 8)
+}
+
+// Fields 27 to 29.
+fn check_loads(found: FieldCheck, loads: Loads) -> FieldCheck
+    ensures { λ r. ⌜ r ≡ after found (loadFields loads) ⌝ }
+{
+    let n = loads.axial;
+    let axial = keep(found, 27, (-10000000 <= n) & (n <= 10000000));
+    let shear = ranged(axial, 28, loads.shear, 0, 10000000);
+    ranged(shear, 29, loads.moment, 0, 10000000)
+}
+
+// Fields 30 to 37: the levers of the rows, and the spare ones, which are 0.
+fn check_levers(found: FieldCheck, rows: u32, levers: [u32; 8]) -> FieldCheck
+    ensures { λ r. ⌜ r ≡ after found (leverFields rows 0 levers) ⌝ }
+{
+    let mut kept = found;
+    let mut row: u32 = 0;
+    while row < 8 {
+        let used = row < rows;
+        kept = ranged(
+            kept,
+            30 + row,
+            levers[row as usize],
+            chosen(used, 1, 0),
+            chosen(used, 20000, 0),
+        );
+        row += 1;
+    }
+    kept
+}
+
+fn chosen(test: bool, yes: u32, other: u32) -> u32
+    ensures { λ r. ⌜ r ≡ cond test yes other ⌝ }
+{
+    if test { yes } else { other }
 }

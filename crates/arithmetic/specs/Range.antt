@@ -1,0 +1,20 @@
+-- A range of whole numbers as document 01 writes it, both ends included: as a test, and as a fact with its two halves named.
+-- Assumes nothing.
+use Prim.Native.Nat.{ℕ, _≤_}
+use mathlib.Core.Bool.{Bool, _&&_}
+use lib.Dec.{leb}
+
+infix 30 _to_
+pub record Range : Type 0 where
+  pub least : ℕ
+  pub most : ℕ
+
+abbrev pub _to_ : ℕ → ℕ → Range
+low to high = record { least = low; most = high }
+
+abbrev pub within : Range → ℕ → Bool
+within range x = leb (range .least) x && leb x (range .most)
+
+pub record Within (range : Range) (x : ℕ) : Type 0 where
+  pub low : range .least ≤ x
+  pub high : x ≤ range .most

@@ -1,0 +1,118 @@
+-- Where the check finds nothing, each of a joint's fields is in its range: every test of the list has passed, and each named range is
+-- read off at its field's number. Assumes nothing.
+use mathlib.Core.Path.{_≡_, refl, sym, ap, subst, _∙_}
+use mathlib.Core.Bool.{Bool, true, false, cond}
+use mathlib.Core.List.{List, [], _∷_, _++_}
+use Prim.Native.Nat.{ℕ, zero, suc, _+_, _-_, _≤_, _<_, zero-le}
+use native.Mathlib.Nat.{add-zero, add-suc, suc-add, zero-add, le-of-suc-le-suc, not-suc-le-zero}
+use native.Mathlib.Omega.{arith}
+use lib.Dec.{T, leb, leb→le}
+use lib.IntN.{ℤ, pos, negsuc, natAbs}
+use lib.ListN.{length, getD}
+use lib.Seq.{getD-append-add}
+use mir.Facts.{and-yes}
+use Rattle.arithmetic.specs.Range.{Within, within}
+use Rattle.arithmetic.proofs.Bounds.{within-yes}
+use Rattle.joint.specs.Ranges.{rowCounts, flags, depths, widths, flanges, webs, radii, clears, plateWidths, thicknesses, gauges, edges, alphas, legs, weldLengths, shearRowCounts, loads, levers}
+use Rattle.joint.specs.Fields.{Field, firstOutside, fieldCheck, fieldsOf, fixedFields, leverFields, withinBothSigns}
+use Rattle.joint.specs.InRange.{InRange}
+use Rattle.joint.specs.declared.Joint.{Joint}
+use Rattle.joint.specs.declared.FieldCheck.{FieldCheck}
+use Rattle.joint.specs.declared.FieldCheck.the-variants.{AllInRange, Outside}
+
+-- the test at a place of the list; past its end nothing is asked
+abbrev test : List Field → ℕ → Bool
+test fields k = getD fields k (0, true) .1
+
+-- the first field held, and so did the others
+head-and-rest : (holds : Bool) (number : ℕ) (rest : FieldCheck) → cond holds rest (Outside number) ≡ AllInRange → T holds × (rest ≡ AllInRange)
+head-and-rest true number rest e = (tt, e)
+head-and-rest false number rest e = let z : _≡_ {A = ℕ} 0 1 = cc in absurd (omega arith)
+
+all-hold : (fields : List Field) → firstOutside fields ≡ AllInRange → (k : ℕ) → T (test fields k)
+unfolding firstOutside
+all-hold [] e k = tt
+all-hold (x ∷ xs) e zero = head-and-rest (x .1) (x .0) (firstOutside xs) e .0
+all-hold (x ∷ xs) e (suc k) = all-hold xs (head-and-rest (x .1) (x .0) (firstOutside xs) e .1) k
+
+lever-test : (n row : ℕ) (hs : List ℕ) (k : ℕ) → k < length hs → test (leverFields n row hs) k ≡ within (levers n (row + k)) (getD hs k 0)
+unfolding leverFields
+lever-test n row [] k h = absurd (not-suc-le-zero h)
+lever-test n row (x ∷ xs) zero h = rw add-zero
+lever-test n row (x ∷ xs) (suc k) h =
+    lever-test n (suc row) xs k (le-of-suc-le-suc h) ∙ ap (λ (i : ℕ). within (levers n i) (getD xs k 0)) (suc-add row k ∙ sym (add-suc row k))
+
+size : (force : ℤ) → T (withinBothSigns force) → Within loads (natAbs force)
+size (pos n) t = record { low = zero-le; high = leb→le n (loads .most) t }
+size (negsuc n) t = record { low = zero-le; high = let h = leb→le n 9999999 (and-yes (leb n 9999999) true t .0) in omega arith }
+
+module _ (joint : Joint) (found : fieldCheck joint ≡ AllInRange) where
+  field : (number : ℕ) → T (test (fieldsOf joint) (number - 1))
+  unfolding fieldCheck
+  field number = all-hold (fieldsOf joint) found (number - 1)
+
+  lever : (row : ℕ) → row < length (joint .face .levers) → Within (levers (joint .face .rows) row) (getD (joint .face .levers) row 0)
+  unfolding fieldCheck fieldsOf fixedFields
+  lever row h =
+      let n = joint .face .rows in
+      let hs = joint .face .levers in
+      within-yes (levers n row) (getD hs row 0)
+      (subst (λ (b : Bool). T b)
+      (ap (λ (field : Field). field .1) (getD-append-add (fixedFields joint) (leverFields n 0 hs) row (0, true)) ∙ lever-test n 0 hs row h ∙ ap (λ (i : ℕ). within (levers n i) (getD hs row 0)) (zero-add row))
+      (all-hold (fieldsOf joint) found (29 + row)))
+
+  pub in-range : InRange joint
+  unfolding fieldsOf fixedFields
+  in-range =
+      let column = joint .column in
+      let face = joint .face in
+      let beam = face .beam in
+      let plate = face .plate in
+      let layout = face .layout in
+      let welds = face .welds in
+      let forces = face .loads in
+      record {
+        column = record {
+          grade = field 5;
+          depth = within-yes depths (column .depth) (field 8);
+          width = within-yes widths (column .width) (field 9);
+          flange = within-yes flanges (column .flange) (field 10);
+          web = within-yes webs (column .web) (field 11);
+          root = within-yes radii (column .root) (field 12);
+          clear = within-yes clears (column .clear) (field 13);
+        };
+        bolts = record { class = field 3; diameter = field 4 };
+        face = record {
+          rows = within-yes rowCounts (face .rows) (field 1);
+          extended = within-yes flags (face .extended) (field 2);
+          beam = record {
+            grade = field 6;
+            depth = within-yes depths (beam .depth) (field 14);
+            width = within-yes widths (beam .width) (field 15);
+            flange = within-yes flanges (beam .flange) (field 16);
+            web = within-yes webs (beam .web) (field 17);
+          };
+          plate = record {
+            grade = field 7;
+            width = within-yes plateWidths (plate .width) (field 18);
+            thickness = within-yes thicknesses (plate .thickness) (field 19);
+          };
+          layout = record {
+            gauge = within-yes gauges (layout .gauge) (field 20);
+            edge = within-yes (edges (face .extended)) (layout .edge) (field 21);
+            alpha = within-yes alphas (layout .alpha) (field 22);
+          };
+          welds = record {
+            flange = within-yes legs (welds .flange) (field 23);
+            web = within-yes legs (welds .web) (field 24);
+            length = within-yes weldLengths (welds .length) (field 25);
+          };
+          shear-rows = within-yes shearRowCounts (face .«shear_rows») (field 26);
+          loads = record {
+            axial = size (forces .axial) (field 27);
+            shear = within-yes loads (forces .shear) (field 28);
+            moment = within-yes loads (forces .moment) (field 29);
+          };
+          lever = lever;
+        };
+      }
