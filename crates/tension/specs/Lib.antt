@@ -1,0 +1,6 @@
+pub mod Spacing
+pub mod Bending
+pub mod Web
+pub mod Limits
+pub mod Admissible
+pub mod Dimensions
