@@ -1,7 +1,7 @@
 -- Bounds on sums, products and quotients, put together as the figure itself is: where x is within one range and y within another,
 -- `x ⊗ y` bounds their product from both sides. `fits` then shows that a figure fits its width. Assumes nothing.
 use mathlib.Core.Path.{_≡_, refl, _∙_, sym}
-use Prim.Native.Nat.{ℕ, zero, suc, _+_, _*_, _/_, _^_, _≤_}
+use Prim.Native.Nat.{ℕ, zero, suc, _+_, _*_, _/_, _^_, _≤_, zero-le}
 use native.Mathlib.Nat.{le-refl, le-trans, le-of-eq, zero-lt-suc, mul-le-mul, add-le-add, div-zero, div-mul-le-self, le-div-iff-mul-le}
 use mathlib.Core.Bool.{Bool, true, false, cond, _&&_}
 use lib.Dec.{T, leb, ltb, leb→le}
@@ -50,3 +50,7 @@ within-yes range x t =
 pub within-either : (test : Bool) (a b c d x : ℕ) → within (cond test a c to cond test b d) x ≡ within (cond test (a to b) (c to d)) x
 within-either true a b c d x = refl
 within-either false a b c d x = refl
+
+-- from a bound above alone
+pub atMost : {x n : ℕ} → x ≤ n → Within (0 to n) x
+atMost h = record { low = zero-le; high = h }

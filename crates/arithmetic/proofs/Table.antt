@@ -1,14 +1,15 @@
 -- A rule of a table, shown by one test that antt computes over all entries and carried to each: by its place in a list, or by its key.
 -- Assumes nothing.
 use mathlib.Core.Path.{_≡_, _∙_, subst, sym}
+use mathlib.Core.Logic.{⊎-elim}
 use mathlib.Core.Bool.{Bool, true, false, cond, _&&_, _||_}
 use mathlib.Core.List.{List, [], _∷_}
 use Prim.Native.Nat.{ℕ, zero, suc, _+_, _<_}
 use native.Mathlib.Nat.{add-zero, zero-add, add-suc, suc-add, le-of-suc-le-suc, not-suc-le-zero}
-use lib.Dec.{T, eqb}
+use lib.Dec.{T, eqb, eqb→eq}
 use lib.ListN.{length, getD}
-use mir.Facts.{and-yes}
-use Rattle.arithmetic.specs.Table.{oneOf, lookup}
+use mir.Facts.{and-yes, or-yes}
+use Rattle.arithmetic.specs.Table.{any, find, oneOf}
 
 -- the test passes at each entry and its place, counted from i
 abbrev pub every : (ℕ → ℕ → Bool) → ℕ → List ℕ → Bool
@@ -25,32 +26,40 @@ from f (x ∷ xs) i t (suc k) h =
 pub at : (f : ℕ → ℕ → Bool) (xs : List ℕ) → T (every f 0 xs) → (k : ℕ) → k < length xs → T (f k (getD xs k 0))
 at f xs t k h = subst (λ (m : ℕ). T (f m (getD xs k 0))) (zero-add k) (from f xs 0 t k h)
 
--- the test passes at the value of each key
+-- the rule passes at the value of each key
 abbrev pub each : (ℕ → Bool) → List ℕ → List ℕ → Bool
 each f [] values = true
 each f (k ∷ keys) [] = false
 each f (k ∷ keys) (v ∷ values) = f v && each f keys values
 
-chosen : (f : ℕ → Bool) (here others : Bool) (v rest : ℕ) → T (f v) → (T others → T (f rest)) → T (here || others) → T (f (cond here v rest))
-chosen f true others v rest p q t = p
-chosen f false others v rest p q t = q t
+module _ (f test : ℕ → Bool) where
+  chosen : (here others : Bool) (v rest : ℕ) → T (f v) → (T others → T (f rest)) → T (here || others) → T (f (cond here v rest))
+  chosen true others v rest p q t = p
+  chosen false others v rest p q t = q t
 
--- so it passes at the value of any one of them
-pub of-key : (f : ℕ → Bool) (keys values : List ℕ) → T (each f keys values) → (key : ℕ) → T (oneOf keys key) → T (f (lookup keys values key))
-of-key f [] values t key h = absurd h
-of-key f (k ∷ keys) [] t key h = absurd t
-of-key f (k ∷ keys) (v ∷ values) t key h =
-    let both = and-yes (f v) (each f keys values) t in
-    chosen f (eqb key k) (oneOf keys key) v (lookup keys values key) (both .0) (of-key f keys values (both .1) key) h
+  -- so it passes at what is found, where something is
+  pub of-found : (keys values : List ℕ) → T (each f keys values) → T (any test keys) → T (f (find test keys values))
+  of-found [] values t h = absurd h
+  of-found (k ∷ keys) [] t h = absurd t
+  of-found (k ∷ keys) (v ∷ values) t h =
+      let both = and-yes (f v) (each f keys values) t in
+      chosen (test k) (any test keys) v (find test keys values) (both .0) (of-found keys values (both .1)) h
 
-either : (f : ℕ → Bool) (here : Bool) (v rest : ℕ) → T (f v) → T (f rest) → T (f (cond here v rest))
-either f true v rest p q = p
-either f false v rest p q = q
+  either : (here : Bool) (v rest : ℕ) → T (f v) → T (f rest) → T (f (cond here v rest))
+  either true v rest p q = p
+  either false v rest p q = q
 
--- and where it passes at 0 too, at what any number finds
-pub of-any : (f : ℕ → Bool) (keys values : List ℕ) → T (each f keys values) → T (f 0) → (key : ℕ) → T (f (lookup keys values key))
-of-any f [] values t z key = z
-of-any f (k ∷ keys) [] t z key = z
-of-any f (k ∷ keys) (v ∷ values) t z key =
-    let both = and-yes (f v) (each f keys values) t in
-    either f (eqb key k) v (lookup keys values key) (both .0) (of-any f keys values (both .1) z key)
+  -- and where it passes at 0, in any case
+  pub of-any : (keys values : List ℕ) → T (each f keys values) → T (f 0) → T (f (find test keys values))
+  of-any [] values t z = z
+  of-any (k ∷ keys) [] t z = z
+  of-any (k ∷ keys) (v ∷ values) t z =
+      let both = and-yes (f v) (each f keys values) t in
+      either (test k) v (find test keys values) (both .0) (of-any keys values (both .1) z)
+
+-- a rule that passes at each number of a list passes at one of them
+pub of-one : (f : ℕ → Bool) (xs : List ℕ) → T (each f xs xs) → (x : ℕ) → T (oneOf xs x) → T (f x)
+of-one f [] t x h = absurd h
+of-one f (y ∷ ys) t x h =
+    let both = and-yes (f y) (each f ys ys) t in
+    ⊎-elim (λ (e : T (eqb x y)). subst (λ (z : ℕ). T (f z)) (sym (eqb→eq x y e)) (both .0)) (of-one f ys (both .1) x) (or-yes (eqb x y) (oneOf ys x) h)

@@ -1,0 +1,4 @@
+pub mod Steel
+pub mod Bolt
+pub mod Thickness
+pub mod InRange

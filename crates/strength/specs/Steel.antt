@@ -1,0 +1,36 @@
+-- Document 01, 'Strengths': steel by grade and thickness, its bearing strength, and welds. What a table doesn't have is 0.
+-- Assumes nothing.
+use Prim.Native.Nat.{ℕ}
+use mathlib.Core.Bool.{cond, _||_}
+use mathlib.Core.List.{List, [], _∷_}
+use lib.Dec.{eqb}
+use Rattle.arithmetic.specs.Table.{lookup, upTo}
+use Rattle.joint.specs.Ranges.{grades}
+use Rattle.joint.specs.declared.Column.{Column}
+use Rattle.joint.specs.declared.Beam.{Beam}
+use Rattle.joint.specs.declared.Plate.{Plate}
+use Rattle.strength.specs.declared.SteelStrengths.{SteelStrengths}
+
+-- up to 16, 40 and 63 mm, in tenths
+abbrev pub bands : List ℕ
+bands = 160 ∷ 400 ∷ 630 ∷ []
+
+-- BS 5950-1:2000 Table 9
+unfoldable pub steelStrength : (grade thickness : ℕ) → ℕ
+steelStrength grade thickness =
+    lookup grades (upTo bands (275 ∷ 265 ∷ 255 ∷ []) thickness ∷ upTo bands (355 ∷ 345 ∷ 335 ∷ []) thickness ∷ []) grade
+
+-- yc and yb go by flange thickness, yp by tp
+abbrev pub steelStrengths : Column → Beam → Plate → SteelStrengths
+steelStrengths column beam plate = record {
+  column = steelStrength (column .grade) (column .flange);
+  beam = steelStrength (beam .grade) (beam .flange);
+  plate = steelStrength (plate .grade) (plate .thickness);
+}
+
+unfoldable pub steelBearing : (grade : ℕ) → ℕ
+steelBearing = lookup grades (460 ∷ 550 ∷ [])
+
+-- pw
+unfoldable pub weldStrength : (beam plate : ℕ) → ℕ
+weldStrength beam plate = cond (eqb beam 275 || eqb plate 275) 220 250

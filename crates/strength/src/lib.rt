@@ -1,0 +1,159 @@
+// Strengths of BS 5950-1:2000 in newtons per square millimetre: steel, bolts and welds. Every function takes any numbers: what is in
+// none of document 01's tables has strength 0. The crates above call these for joints whose fields are in range.
+ghost use mathlib.Core.Path.{_≡_};
+ghost use mathlib.Core.List.{[], _∷_};
+ghost use Prim.Native.Nat.{_≤_};
+ghost use Rattle.arithmetic.specs.Table.{upTo};
+ghost use Rattle.strength.specs.Steel.{steelStrength, steelStrengths, steelBearing, weldStrength, bands};
+ghost use Rattle.strength.specs.Bolt.{boltArea, classStrengths, boltStrengths};
+ghost use Rattle.strength.specs.Thickness.{thicknessLimit, tooThick};
+use joint::Beam;
+use joint::Bolts;
+use joint::Column;
+use joint::Plate;
+
+// yc, yb and yp.
+pub struct SteelStrengths {
+    pub column: u64,
+    pub beam: u64,
+    pub plate: u64,
+}
+
+// What a bolt class gives: pt, ps, bearing and U.
+pub struct ClassStrengths {
+    pub tension: u64,
+    pub shear: u64,
+    pub bearing: u64,
+    pub ultimate: u64,
+}
+
+// What a joint's bolts give: area A in tenths of mm², pair tension W in newtons, ps, bearing and U.
+pub struct BoltStrengths {
+    pub area: u64,
+    pub pair: u64,
+    pub shear: u64,
+    pub bearing: u64,
+    pub ultimate: u64,
+}
+
+pub fn steel_strengths(column: Column, beam: Beam, plate: Plate) -> SteelStrengths
+    ensures { λ r. ⌜ r ≡ steelStrengths column beam plate ⌝ }
+{
+    SteelStrengths {
+        column: steel_strength(column.grade, column.flange),
+        beam: steel_strength(beam.grade, beam.flange),
+        plate: steel_strength(plate.grade, plate.thickness),
+    }
+}
+
+// Table 9, thickness in tenths of a millimetre.
+pub fn steel_strength(grade: u32, thickness: u32) -> u64
+    ensures { λ r. ⌜ r ≡ steelStrength grade thickness ⌝ }
+{
+    match grade {
+        275 => by_thickness(thickness, 275, 265, 255),
+        355 => by_thickness(thickness, 355, 345, 335),
+        _ => 0,
+    }
+}
+
+fn by_thickness(thickness: u32, thin: u64, medium: u64, thick: u64) -> u64
+    ensures { λ r. ⌜ r ≡ upTo bands (thin ∷ medium ∷ thick ∷ []) thickness ⌝ }
+{
+    if thickness <= 160 {
+        thin
+    } else if thickness <= 400 {
+        medium
+    } else if thickness <= 630 {
+        thick
+    } else {
+        0
+    }
+}
+
+pub fn steel_bearing(grade: u32) -> u64
+    ensures { λ r. ⌜ r ≡ steelBearing grade ⌝ }
+{
+    match grade {
+        275 => 460,
+        355 => 550,
+        _ => 0,
+    }
+}
+
+pub fn weld_strength(beam_grade: u32, plate_grade: u32) -> u64
+    ensures { λ r. ⌜ r ≡ weldStrength «beam_grade» «plate_grade» ⌝ }
+{
+    if (beam_grade == 275) | (plate_grade == 275) {
+        220
+    } else {
+        250
+    }
+}
+
+pub fn bolt_strengths(bolts: Bolts) -> BoltStrengths
+    ensures { λ r. ⌜ r ≡ boltStrengths bolts ⌝ }
+{
+    let area = bolt_area(bolts.diameter);
+    let class = class_strengths(bolts.class);
+    BoltStrengths {
+        area,
+        pair: 2 * area * class.tension / 10,
+        shear: class.shear,
+        bearing: class.bearing,
+        ultimate: class.ultimate,
+    }
+}
+
+fn bolt_area(diameter: u32) -> u64
+    ensures { λ r. ⌜ r ≡ boltArea diameter ⌝ }
+{
+    match diameter {
+        12 => 843,
+        16 => 1570,
+        20 => 2450,
+        24 => 3530,
+        30 => 5610,
+        _ => 0,
+    }
+}
+
+fn class_strengths(class: u32) -> ClassStrengths
+    ensures { λ r. ⌜ r ≡ classStrengths class ⌝ }
+{
+    match class {
+        46 => class_of(240, 160, 460, 400),
+        88 => class_of(560, 375, 1000, 800),
+        109 => class_of(700, 400, 1300, 1000),
+        _ => class_of(0, 0, 0, 0),
+    }
+}
+
+fn class_of(tension: u64, shear: u64, bearing: u64, ultimate: u64) -> ClassStrengths
+    ensures { λ r. ⌜ r ≡ record { tension = tension; shear = shear; bearing = bearing; ultimate = ultimate } ⌝ }
+{
+    ClassStrengths {
+        tension,
+        shear,
+        bearing,
+        ultimate,
+    }
+}
+
+// 10000×δ²×U of refusal 14, which a flange and a plate are both held against. Work calls it for fields in range.
+pub fn thickness_limit(diameter: u32, ultimate: u64) -> u64
+    requires { ⌜ (diameter ≤ 30) × (ultimate ≤ 1000) ⌝ }
+    ensures { λ r. ⌜ r ≡ thicknessLimit diameter ultimate ⌝ }
+{
+    let d = diameter as u64;
+    10000 * d * d * ultimate
+}
+
+// Refusal 14's rule for one of the two. Work calls it for fields in range.
+pub fn too_thick(thickness: u32, strength: u64, limit: u64) -> bool
+    requires { ⌜ (thickness ≤ 500) × (strength ≤ 355) ⌝ }
+    ensures { λ r. ⌜ r ≡ tooThick thickness strength limit ⌝ }
+{
+    let t = thickness as u64;
+    limit < 361 * t * t * strength
+}
