@@ -36,12 +36,12 @@ extensionLength mx edge e g bp =
     let c = 6283 * mx / 2000 in
     let E = 10 * edge in
     leastOf (6283 * mx / 1000)
-    (c + 10 * g
-    ∷ c + 2 * e
-    ∷ 4 * mx + 5 * E / 4
-    ∷ 2 * mx + 5 * E / 8 + e
-    ∷ 2 * mx + 5 * E / 8 + 5 * g
-    ∷ 5 * bp
+    ((c + 10 * g)
+    ∷ (c + 2 * e)
+    ∷ (4 * mx + 5 * E / 4)
+    ∷ (2 * mx + 5 * E / 8 + e)
+    ∷ (2 * mx + 5 * E / 8 + 5 * g)
+    ∷ (5 * bp)
     ∷ [])
 
 -- 'L×t²×y÷(100m)': mode 1, complete yielding of the flange

@@ -14,13 +14,17 @@ use Rattle.tension.specs.Spacing.{columnM, plateM, columnEdge, plateEdge
 use Rattle.tension.specs.Bending.{leastOf, effectiveLength, effectiveLengthNearFlange, extensionLength, bending}
 use Rattle.tension.specs.Web.{webTension}
 
--- 'Column bending': k rows, i to j
+-- 'k is its number of rows'
+abbrev pub rowsIn : ℕ → ℕ → ℕ
+rowsIn i j = suc j - i
+
+-- bending of the column flange
 unfoldable pub columnFlangeBending : Column → Bolts → Face → ℕ → ℕ → ℕ
 columnFlangeBending column bolts face i j =
     let m = columnM column (face .layout) in
     let e = columnEdge column (face .layout) in
     bending m (effectiveEdge e (plateEdge face) m) (column .flange) (steelStrength (column .grade) (column .flange))
-    (pairTension bolts) (suc j - i) (effectiveLength m e (rise face i j))
+    (pairTension bolts) (rowsIn i j) (effectiveLength m e (rise face i j))
 
 -- 'Extension row alone, plate': 'n' is the smaller of E and 5mx÷4; mx stands for m.'
 unfoldable pub extensionBending : Bolts → Face → ℕ
@@ -37,14 +41,14 @@ endPlateBending column bolts face i j =
     let e = plateEdge face in
     let s = rise face i j in
     bending m (effectiveEdge (columnEdge column (face .layout)) e m) (face .plate .thickness)
-    (steelStrength (face .plate .grade) (face .plate .thickness)) (pairTension bolts) (suc j - i)
+    (steelStrength (face .plate .grade) (face .plate .thickness)) (pairTension bolts) (rowsIn i j)
     (cond (eqb i (face .extended)) (effectiveLengthNearFlange (face .layout .alpha) m s) (effectiveLength m e s))
 
 -- 'Longer groups that begin at the extension row have no plate limit.'
 unfoldable pub endPlateLimits : Column → Bolts → Face → ℕ → ℕ → List ℕ
 endPlateLimits column bolts face i j =
     cond (ltb i (face .extended))
-    (cond (eqb j i) (extensionBending bolts face ∷ []) [])
+    (cond (eqb (rowsIn i j) 1) (extensionBending bolts face ∷ []) [])
     (endPlateBending column bolts face i j ∷ [])
 
 unfoldable pub columnWebTension : Column → Face → ℕ → ℕ → ℕ

@@ -1,0 +1,63 @@
+-- `with_plate` meets its contract: at each return the tests say which rule of the plate applies. Assumes nothing.
+use Rattle.tension.proofs.Sizes.{plate-side-le}
+use mathlib.Core.Path.{_≡_, refl, sym, ap, _∙_}
+use Prim.Native.Nat.{ℕ, min}
+use native.Mathlib.Omega.{arith}
+use borrow.Author.Tests.{lt-ltb, le-ltb, eq-eqb, ne-eqb}
+use Rattle.tension.specs.Dimensions.{bendingBy, lengthBy, plateBy}
+use borrow.Author.Needs.{needs}
+use Rattle.tension.proofs.with_plate.Statement.{statement}
+use Rattle.tension.proofs.with_plate.Tie as tie
+
+least-requires : tie.Need-least-requires
+least-requires c κs = search needs
+
+returns : tie.Need-returns
+unfolding plateBy
+returns c =
+    simp (lt-ltb _ _ (c .before .before .if1 .taken), eq-eqb _ _ (c .before .if2 .taken)) (c .least .ensures)
+
+returns-2 : tie.Need-returns-2
+unfolding plateBy
+returns-2 c = simp (lt-ltb _ _ (c .before .if1 .taken), ne-eqb _ _ (c .if2 .left))
+
+plate-side-requires : tie.Need-plate-side-requires
+plate-side-requires c κs = search needs
+
+effective-length-requires : tie.Need-effective-length-requires
+effective-length-requires c κs =
+    let s = c .before .before .before in
+    let side = plate-side-le (s .args .d) (s .pre .0) (s .args .row) in
+    (omega (arith, s .pre .0 .plate-lengths .circular .high), omega (arith, c .plate-side .ensures), s .pre .1 .1 .high)
+
+bending-requires : tie.Need-bending-requires
+bending-requires c κs = search needs
+
+least-requires-2 : tie.Need-least-requires-2
+least-requires-2 c κs = search needs
+
+returns-3 : tie.Need-returns-3
+unfolding plateBy
+returns-3 c =
+    let s = c .before .before .before .before .before .before in
+    let d = s .args .d in
+    simp (le-ltb _ _ (c .before .before .before .before .if1 .left))
+    (c .least2 .ensures
+    ∙ ap (min (s .args .limit))
+    (c .before .bending .ensures
+    ∙ ap (bendingBy (d .plate) (d .pair) (s .args .rows))
+    (c .before .before .effective-length .ensures
+    ∙ ap (λ side. lengthBy (d .«plate_lengths» .circular) side (s .args .rise)) (c .before .before .before .plate-side .ensures))))
+
+pub with-plate-spec : {M : Type 1} → statement M
+with-plate-spec =
+    tie.close
+    (tie.spec
+    least-requires
+    returns
+    returns-2
+    plate-side-requires
+    effective-length-requires
+    bending-requires
+    least-requires-2
+    returns-3)

@@ -1,0 +1,114 @@
+-- What of a joint's group limits is the same for every group, worked once, and a group's limit from it.
+-- Each figure is a factor of document 01's rules; proofs/Worked.antt has the law that the limit comes out as they say.
+-- Assumes nothing.
+use Prim.Native.Nat.{ℕ, _+_, _*_, _/_, min}
+use mathlib.Core.Bool.{cond}
+use lib.Dec.{ltb, eqb}
+use Rattle.arithmetic.specs.Range.{Within, _to_}
+use Rattle.joint.specs.declared.Column.{Column}
+use Rattle.joint.specs.declared.Bolts.{Bolts}
+use Rattle.joint.specs.declared.Face.{Face}
+use Rattle.strength.specs.Steel.{steelStrength}
+use Rattle.strength.specs.Bolt.{pairTension}
+use Rattle.tension.specs.Spacing.{columnM, plateM, columnEdge, plateEdge, effectiveEdge}
+use Rattle.tension.specs.Limits.{extensionBending}
+use Rattle.tension.specs.declared.Stub.{Stub}
+use Rattle.tension.specs.declared.Lengths.{Lengths}
+use Rattle.tension.specs.declared.Dimensions.{Dimensions}
+
+abbrev pub stubOf : (m n t y W : ℕ) → Stub
+stubOf m n t y W = record { flexure = t * t * y; yielding = 100 * m; prying = 200 * n * W; breaking = 200 * (m + n) }
+
+abbrev pub lengthsOf : (m e : ℕ) → Lengths
+lengthsOf m e = record { circular = 6283 * m / 1000; side = 4 * m + 5 * e / 4 }
+
+unfoldable pub dimensionsOf : Column → Bolts → Face → Dimensions
+dimensionsOf column bolts face =
+    let g = face .layout .gauge in
+    let mc = columnM column (face .layout) in
+    let mp = plateM face in
+    let ec = columnEdge column (face .layout) in
+    let ep = plateEdge face in
+    let yc = steelStrength (column .grade) (column .flange) in
+    let yb = steelStrength (face .beam .grade) (face .beam .flange) in
+    let yp = steelStrength (face .plate .grade) (face .plate .thickness) in
+    let W = pairTension bolts in
+    record
+      { column = stubOf mc (effectiveEdge ec ep mc) (column .flange) yc W
+      ; plate = stubOf mp (effectiveEdge ec ep mp) (face .plate .thickness) yp W
+      ; «column_lengths» = lengthsOf mc ec
+      ; «plate_lengths» = lengthsOf mp ep
+      ; «near_flange» = face .layout .alpha * mp / 100
+      ; extension = cond (eqb (face .extended) 0) 0 (extensionBending bolts face)
+      ; gauge = 173 * g
+      ; «column_web» = column .web * yc
+      ; «beam_web» = face .beam .web * yb
+      ; pair = W
+      ; first = face .extended
+      }
+
+-- the effective length of a group: the smaller of two patterns, with the rise s
+abbrev pub lengthBy : (circular side s : ℕ) → ℕ
+lengthBy circular side s = min (circular + 20 * s) (side + 10 * s)
+
+-- the least of the three modes, for k rows and an effective length L
+unfoldable pub bendingBy : Stub → (W k L : ℕ) → ℕ
+bendingBy stub W k L =
+    min (min (L * stub .flexure / stub .yielding) ((L * stub .flexure + k * stub .prying) / stub .breaking)) (k * W)
+
+abbrev pub webBy : (gauge s web : ℕ) → ℕ
+webBy gauge s web = (gauge + 100 * s) * web / 10000
+
+unfoldable pub columnBy : Dimensions → (k s : ℕ) → ℕ
+columnBy d k s =
+    bendingBy (d .column) (d .pair) k (lengthBy (d .«column_lengths» .circular) (d .«column_lengths» .side) s)
+
+-- the plate's pattern of side yielding for a group that begins at row i
+abbrev pub plateSideBy : Dimensions → (i : ℕ) → ℕ
+plateSideBy d i = cond (eqb i (d .first)) (d .«near_flange») (d .«plate_lengths» .side)
+
+-- a limit with the plate's, where there is one
+unfoldable pub plateBy : Dimensions → (i k s limit : ℕ) → ℕ
+plateBy d i k s limit =
+    cond (ltb i (d .first))
+    (cond (eqb k 1) (min limit (d .extension)) limit)
+    (min limit (bendingBy (d .plate) (d .pair) k (lengthBy (d .«plate_lengths» .circular) (plateSideBy d i) s)))
+
+-- and with the webs'
+unfoldable pub websBy : Dimensions → (i s limit : ℕ) → ℕ
+websBy d i s limit =
+    let web = min limit (webBy (d .gauge) s (d .«column_web»)) in
+    cond (ltb (d .first) i) (min web (webBy (d .gauge) s (d .«beam_web»))) web
+
+-- the limit of the group of k rows from row i on, whose rise is s
+unfoldable pub limitBy : Dimensions → (i k s : ℕ) → ℕ
+limitBy d i k s = websBy d i s (plateBy d i k s (columnBy d k s))
+
+-- How large the figures are: what a T-stub is made from, and what comes of it.
+pub record StubParts (m n t y W : ℕ) : Type 0 where
+  pub distance : Within (500 to 202500) m
+  pub edge : Within (0 to 20000) n
+  pub thickness : Within (0 to 500) t
+  pub strength : Within (0 to 355) y
+  pub pair : Within (0 to 785400) W
+
+pub record StubWithin (stub : Stub) : Type 0 where
+  pub flexure : Within (0 to 88750000) (stub .flexure)
+  pub yielding : Within (50000 to 20250000) (stub .yielding)
+  pub prying : Within (0 to 3141600000000) (stub .prying)
+  pub breaking : Within (100000 to 45000000) (stub .breaking)
+
+pub record LengthsWithin (lengths : Lengths) : Type 0 where
+  pub circular : Within (0 to 94245) (lengths .circular)
+  pub side : Within (0 to 97500) (lengths .side)
+
+pub record DimensionsWithin (d : Dimensions) : Type 0 where
+  pub column : StubWithin (d .column)
+  pub plate : StubWithin (d .plate)
+  pub column-lengths : LengthsWithin (d .«column_lengths»)
+  pub plate-lengths : LengthsWithin (d .«plate_lengths»)
+  pub near-flange : Within (0 to 120000) (d .«near_flange»)
+  pub gauge : Within (0 to 519000) (d .gauge)
+  pub column-web : Within (0 to 142000) (d .«column_web»)
+  pub beam-web : Within (0 to 142000) (d .«beam_web»)
+  pub pair : Within (0 to 785400) (d .pair)
