@@ -53,17 +53,17 @@ module _ (n : ℕ) (limits : List ℕ) (rows : Bool) (er : rows ≡ within rowCo
             rows = at-most-eight n rows er ok;
             enough = enough;
             bounded = λ k h.
-              let small-one = each-within 4000000000 (take (groupCount n) limits) (sym en ∙ not-false none small) k
-                    (rw (length-take-le (groupCount n) limits enough) h) in
-              rw (getD-take (groupCount n) limits k 0 h) at small-one
+                let small-one = each-within 4000000000 (take (groupCount n) limits) (sym en ∙ not-false none small) k
+                (rw (length-take-le (groupCount n) limits enough) h) in
+                rw (getD-take (groupCount n) limits k 0 h) at small-one;
           }
 
 -- an answer that is no refusal has the best forces
 module _ (n : ℕ) (limits : List ℕ) where
   best-of : (rows few many : Bool)
-    → (answer : Allocation)
-    → answer ≡ cond rows (refusedBy 3) (cond few (refusedBy 7) (cond many (refusedBy 8) (record { refusal = 0; forces = eightPlaces (shared (listed n limits) n) })))
-    → answer .refusal ≡ 0 → Best (listed n limits) n (take n (answer .forces))
+      → (answer : Allocation)
+      → answer ≡ cond rows (refusedBy 3) (cond few (refusedBy 7) (cond many (refusedBy 8) (record { refusal = 0; forces = eightPlaces (shared (listed n limits) n) })))
+      → answer .refusal ≡ 0 → Best (listed n limits) n (take n (answer .forces))
   unfolding eightPlaces
   best-of true few many answer e z = let three : _≡_ {A = ℕ} 0 3 = sym z ∙ ap (λ a. a .refusal) e in absurd (omega arith)
   best-of false true many answer e z = let seven : _≡_ {A = ℕ} 0 7 = sym z ∙ ap (λ a. a .refusal) e in absurd (omega arith)
@@ -74,7 +74,7 @@ module _ (n : ℕ) (limits : List ℕ) where
       rw (ap (λ a. take n (a .forces)) e ∙ take-at forces (replicate (8 - length forces) 0) n (b .competes .rows)) b
 
   pub no-refusal-is-best : (answer : Allocation) → answer ≡ allocated n limits → answer .refusal ≡ 0
-    → Best (listed n limits) n (take n (answer .forces))
+      → Best (listed n limits) n (take n (answer .forces))
   unfolding allocated
   no-refusal-is-best answer e z =
       best-of (not (within rowCounts n)) (ltb (length limits) (groupCount n)) (not (noneAbove 4000000000 (take (groupCount n) limits))) answer e z

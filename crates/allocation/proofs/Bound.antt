@@ -22,7 +22,7 @@ both false b t = (t, absurd (no-false t))
 module _ (most : ℕ) where
   -- the number at k is within the bound: what is left decides
   pub within : (xs : List ℕ) (k : ℕ) → k < length xs → getD xs k 0 ≤ most
-    → noneAbove most (drop k xs) ≡ noneAbove most (drop (k + 1) xs)
+      → noneAbove most (drop k xs) ≡ noneAbove most (drop (k + 1) xs)
   unfolding noneAbove
   within xs k h small = rw (drop-cons xs k 0 h, le-leb _ most small, add-one k)
 

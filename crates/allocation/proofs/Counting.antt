@@ -28,13 +28,13 @@ module _ (n : ℕ) (limits : List ℕ) where
 
   -- lowering from the longest group on
   pub lowest : (row first last : ℕ) → first ≡ groupsAbove n row → suc last ≡ n
-    → getD limits (first + (last - row)) 0 ≡ lowered (listed n limits) n row last
+      → getD limits (first + (last - row)) 0 ≡ lowered (listed n limits) n row last
   unfolding listed
   lowest row first last e end =
       ap (λ f. getD limits (f + (last - row)) 0) e ∙ sym (lowered-last (listed n limits) n row last end)
 
   pub lower : (row first last low : ℕ) → first ≡ groupsAbove n row → suc last < n → low ≡ lowered (listed n limits) n row (suc last)
-    → min (getD limits (first + (last - row)) 0) low ≡ lowered (listed n limits) n row last
+      → min (getD limits (first + (last - row)) 0) low ≡ lowered (listed n limits) n row last
   unfolding listed
   lower row first last low e inside el =
       (λ i. min (getD limits (e i + (last - row)) 0) (el i)) ∙ sym (lowered-next (listed n limits) n row last inside)
@@ -45,16 +45,16 @@ module _ (n : ℕ) (limits : List ℕ) where
 
     -- one group more: the one that ends at row `last`
     pub one-more : (last next low stored : ℕ) (sums : List ℕ) → last < length sums → last ≡ next
-      → low ≡ lowered (listed n limits) n row last → stored ≡ min (getD sums last 0) (above + low)
-      → Counted n limits row above (suc last) sums₀ sums → Counted n limits row above next sums₀ (set sums last stored)
+        → low ≡ lowered (listed n limits) n row last → stored ≡ min (getD sums last 0) (above + low)
+        → Counted n limits row above (suc last) sums₀ sums → Counted n limits row above next sums₀ (set sums last stored)
     one-more last next low stored sums inside here e es c =
         record {
           size = length-set sums last _ ∙ c .size;
           stay = λ k h. getD-set-other sums last k _ 0 (omega arith) ∙ c .stay k (omega arith);
           counted = λ k h under.
-            ⊎-elim
-            (λ same. rw (← same)
-            (getD-set-same sums last _ 0 inside ∙ es ∙ λ i. min (c .stay last (omega arith) i) (above + e i)))
-            (λ past. getD-set-other sums last k _ 0 (omega arith) ∙ c .counted k past under)
-            (eq-or-lt-of-le (rw (← here) at h))
+              ⊎-elim
+              (λ same. rw (← same)
+              (getD-set-same sums last _ 0 inside ∙ es ∙ λ i. min (c .stay last (omega arith) i) (above + e i)))
+              (λ past. getD-set-other sums last k _ 0 (omega arith) ∙ c .counted k past under)
+              (eq-or-lt-of-le (rw (← here) at h));
         }

@@ -77,11 +77,11 @@ module _ (n : ℕ) (limits : List ℕ) (s : Shareable n limits) where
         sum = refl;
         got = refl;
         size = refl;
-        left = λ k h inside. getD-replicate 8 k 4000000000 0 (omega (arith, s .rows))
+        left = λ k h inside. getD-replicate 8 k 4000000000 0 (omega (arith, s .rows));
       }
 
   module _ (forces sums : List ℕ) (above first row : ℕ) (d : SharedDownTo n limits forces sums above first row) (inside : row < n)
-    (sums' : List ℕ) (c : Counted n limits row above row sums sums') where
+      (sums' : List ℕ) (c : Counted n limits row above row sums sums') where
     counted-is-allowed : (k : ℕ) → row ≤ k → k < n → getD sums' k 0 ≡ allowed (listed n limits) n (suc row) k
     unfolding allowed
     counted-is-allowed k h under =
@@ -114,11 +114,11 @@ module _ (n : ℕ) (limits : List ℕ) (s : Shareable n limits) where
           sum = down;
           got = stored;
           size = c .size ∙ d .size;
-          left = λ k h under. counted-is-allowed k (omega arith) under
+          left = λ k h under. counted-is-allowed k (omega arith) under;
         })
 
   pub finish : (forces sums : List ℕ) (above first row : ℕ) → SharedDownTo n limits forces sums above first row → n ≤ row
-    → forces ≡ eightPlaces (shared (listed n limits) n)
+      → forces ≡ eightPlaces (shared (listed n limits) n)
   unfolding eightPlaces shared
   finish forces sums above first row d past =
       let all : row ≡ n = omega (arith, d .rows) in

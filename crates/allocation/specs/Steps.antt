@@ -19,4 +19,4 @@ pub record Counted (n : ℕ) (limits : List ℕ) (row above next : ℕ) (sums₀
   pub size : length sums ≡ length sums₀
   pub stay : (k : ℕ) → k < next → getD sums k 0 ≡ getD sums₀ k 0
   pub counted : (k : ℕ) → next ≤ k → k < n
-    → getD sums k 0 ≡ min (getD sums₀ k 0) (above + lowered (listed n limits) n row k)
+      → getD sums k 0 ≡ min (getD sums₀ k 0) (above + lowered (listed n limits) n row k)

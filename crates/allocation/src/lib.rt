@@ -66,7 +66,14 @@ pub fn share(count: usize, limits: &[u64]) -> [u64; 8]
 
 // Counts the groups that begin at `row` into the sums from the top; their limits stand from `first` on.
 // From the longest group to the shortest, so that each limit is lowered by the last.
-fn count_groups(sums: &mut [u64; 8], limits: &[u64], first: usize, row: usize, count: usize, above: u64)
+fn count_groups(
+    sums: &mut [u64; 8],
+    limits: &[u64],
+    first: usize,
+    row: usize,
+    count: usize,
+    above: u64,
+)
     requires { ⌜ Shareable count (now limits) ⌝ }
     requires { ⌜ (row < count) × (first ≡ groupsAbove count row) × (above ≤ 4000000000) × (count ≤ length (now sums)) ⌝ }
     ensures { λ _. ⌜ Counted count (now (limits .entry)) row above row (now (sums .entry)) (now (sums .exit)) ⌝ }

@@ -54,12 +54,11 @@ module _ (limit : Table) (n cap : ℕ) where
         omega (arith, joined-whole k e, whole forces k (c .rows ∙ e))
 
     pub cap-is-a-limit : Competes (joined limit n cap) n forces ↔ (Competes limit n forces × (total forces ≤ cap))
-    cap-is-a-limit =
-        (
-          (λ c. (record { rows = c .rows; keeps = λ i j h inside. le-trans (c .keeps i j h inside) (joined-le i j) }, within-cap n refl c)),
-          (λ c. record {
-            rows = c .0 .rows;
-            keeps = λ i j h inside. le-joined i j _ (c .0 .keeps i j h inside)
-              (λ top last. rw top (omega (arith, c .1, whole forces j (c .0 .rows ∙ sym last))))
-          }),
-        )
+    cap-is-a-limit = (
+      (λ c. (record { rows = c .rows; keeps = λ i j h inside. le-trans (c .keeps i j h inside) (joined-le i j) }, within-cap n refl c)),
+      (λ c. record {
+        rows = c .0 .rows;
+        keeps = λ i j h inside. le-joined i j _ (c .0 .keeps i j h inside)
+            (λ top last. rw top (omega (arith, c .1, whole forces j (c .0 .rows ∙ sym last))));
+      }),
+    )

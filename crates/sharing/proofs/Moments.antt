@@ -25,7 +25,7 @@ falls-tail top lever levers f =
       first = λ h. f .falls 0 (omega arith);
       falls = λ k h. f .falls (suc k) (omega arith);
       positive = f .positives 0 (omega arith);
-      positives = λ k h. f .positives (suc k) (omega arith)
+      positives = λ k h. f .positives (suc k) (omega arith);
     }
 
 -- the sums of `ahead`, with the newtons in hand, are nowhere below those of `behind`
@@ -76,6 +76,6 @@ moment-eq (lever ∷ levers) (x ∷ xs) (y ∷ ys) hand top f ex ey d e =
     let below = moment-le levers xs ys (hand + x - y) lever tail (omega arith) (omega arith) ahead in
     let none = none-in-hand hand lever top fall (omega (arith, hand-down hand x y lever lever (omega arith) (le-refl lever))) in
     let rest = moment-eq levers xs ys (hand + x - y) lever tail (omega arith) (omega arith) ahead
-          (omega (arith, hand-down hand x y lever top (omega arith) (omega arith))) in
+    (omega (arith, hand-down hand x y lever top (omega arith) (omega arith))) in
     let same : y ≡ x = omega (arith, rest .0) in
     (none, ap₂ (λ z zs. z ∷ zs) same (rest .1))

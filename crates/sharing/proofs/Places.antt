@@ -3,8 +3,9 @@
 -- Assumes nothing.
 use mathlib.Core.Path.{_≡_, refl, sym, ap, _∙_}
 use Prim.Native.Nat.{ℕ, zero, suc, _+_, _-_, _*_, _/_, _≤_, _<_}
-use native.Mathlib.Nat.{zero-add, suc-add, add-suc, suc-mul, mul-suc, add-zero}
+use native.Mathlib.Nat.{zero-add, suc-add, add-suc, suc-mul, mul-suc, mul-le-mul, add-zero}
 use native.Mathlib.Numerals.{add-one}
+use native.Mathlib.Decide.{decLe}
 use native.Mathlib.Omega.{arith}
 use Rattle.sharing.specs.Groups.{groupsAbove, groupCount}
 
@@ -26,6 +27,11 @@ all-groups n =
     let twice : 2 * groupsAbove n n + 0 * (0 + 1) ≡ n * (n + 1) = rw (add-zero n) at (triangle n 0) in
     omega arith
 
+-- eight rows make 36 groups, and fewer rows no more
+pub group-count-le : (n : ℕ) → n ≤ 8 → groupCount n ≤ 36
+unfolding groupCount
+group-count-le n h = omega (arith, mul-le-mul {n₁ = n} {m₁ = n + 1} {n₂ = 8} {m₂ = 9} h (omega arith))
+
 groups-grow : (n i d : ℕ) → groupsAbove n i ≤ groupsAbove n (i + d)
 unfolding groupsAbove
 groups-grow n i zero = rw (add-zero i) (omega arith)
@@ -38,3 +44,23 @@ groups-inside n i h =
     let rows : suc i + (n - suc i) ≡ n = omega arith in
     let grown = groups-grow n (suc i) (n - suc i) in
     omega (arith, ap (groupsAbove n) rows, all-groups n)
+
+-- a group that begins at an upper row stands before those that begin at a lower one
+upper-first : (n a b i : ℕ) → a ≤ b → b < n → a < i → groupsAbove n a + (b - a) < groupsAbove n i
+unfolding groupsAbove
+upper-first n a b i h inside under =
+    let rows : suc a + (i - suc a) ≡ i = omega arith in
+    let grown = groups-grow n (suc a) (i - suc a) in
+    omega (arith, ap (groupsAbove n) rows)
+
+-- no two groups have one place
+pub one-group-a-place : (n a b i j : ℕ) → a ≤ b → b < n → i ≤ j → j < n → groupsAbove n a + (b - a) ≡ groupsAbove n i + (j - i)
+    → (a ≡ i) × (b ≡ j)
+one-group-a-place n a b i j hb inside hj under e =
+    let row = same-row (decLe a i) (decLe i a) in
+    (row, (let places : b - a ≡ j - i = omega (arith, ap (groupsAbove n) row) in omega arith))
+  where
+    same-row : Dec (a ≤ i) → Dec (i ≤ a) → a ≡ i
+    same-row (yes p) (yes q) = omega arith
+    same-row (yes p) (no q) = absurd (omega (arith, upper-first n a b i hb inside (omega arith)))
+    same-row (no p) q = absurd (omega (arith, upper-first n i j a hj under (omega arith)))

@@ -46,7 +46,7 @@ module _ (limit : Table) (n : ℕ) where
 
   -- the force of row k, with the count of the rows above in the place of their list's length
   next : (k : ℕ) → nextForce limit n (forcesDownTo limit n k)
-    ≡ least (λ i. lowered limit n i k - total (drop i (forcesDownTo limit n k))) k
+      ≡ least (λ i. lowered limit n i k - total (drop i (forcesDownTo limit n k))) k
   unfolding nextForce
   next k = ap (λ m. least (λ i. lowered limit n i m - total (drop i (forcesDownTo limit n k))) m) (length-forces k)
 
@@ -55,7 +55,7 @@ module _ (limit : Table) (n : ℕ) where
   sum-step k = total-snoc (forcesDownTo limit n k) _
 
   sum-le-from : (k i : ℕ) → k < n → i ≤ k → sumDownTo limit n k ≤ sumDownTo limit n i + lowered limit n i k
-    → sumDownTo limit n (suc k) ≤ sumDownTo limit n i + lowered limit n i k
+      → sumDownTo limit n (suc k) ≤ sumDownTo limit n i + lowered limit n i k
   sum-le-from k i inside h fits =
       let force = least-le (λ e. lowered limit n e k - total (drop e (forcesDownTo limit n k))) k i h in
       let force-le : nextForce limit n (forcesDownTo limit n k) ≤ lowered limit n i k - total (drop i (forcesDownTo limit n k)) = rw (next k) force in
@@ -73,6 +73,6 @@ module _ (limit : Table) (n : ℕ) where
   pub le-sum : (k x : ℕ) → ((i : ℕ) → i ≤ k → x ≤ sumDownTo limit n i + lowered limit n i k) → x ≤ sumDownTo limit n (suc k)
   le-sum k x below =
       let rest = le-least (λ i. lowered limit n i k - total (drop i (forcesDownTo limit n k))) k (x - sumDownTo limit n k)
-            (λ i h. let b = below i h in omega (arith, got k i h)) in
+      (λ i h. let b = below i h in omega (arith, got k i h)) in
       let force : x - sumDownTo limit n k ≤ nextForce limit n (forcesDownTo limit n k) = rw (next k) rest in
       omega (arith, sum-step k)

@@ -32,8 +32,8 @@ module _ (limit : Table) (n : ℕ) where
       record {
         rows = length-forces limit n n;
         keeps = λ i j h inside.
-          let sum = above-and-group (shared limit n) i j h in
-          omega (arith, sum-shared i (omega arith), sum-shared (suc j) inside, sum-le limit n j i inside h, lowered-le limit n i j)
+            let sum = above-and-group (shared limit n) i j h in
+            omega (arith, sum-shared i (omega arith), sum-shared (suc j) inside, sum-le limit n j i inside h, lowered-le limit n i j);
       }
 
   module _ (other : List ℕ) (c : Competes limit n other) where
@@ -67,15 +67,15 @@ module _ (limit : Table) (n : ℕ) where
     pub sum-le-shared : (k : ℕ) → total (take k other) ≤ total (take k (shared limit n))
     sum-le-shared k =
         elim (decLe k n) [
-          yes h ↦ rw (sum-shared k h) (sum-le-inside k k (le-refl k) h)
-        | no h ↦
-          let past : n ≤ k = omega arith in
-          let whole = sum-le-inside n n (le-refl n) (le-refl n) in
-          let mine = take-all k (shared limit n) (omega (arith, shared-competes .rows)) in
-          let others = take-all k other (omega (arith, c .rows)) in
-          let mine-n = take-all n (shared limit n) (omega (arith, shared-competes .rows)) in
-          let others-n = take-all n other (omega (arith, c .rows)) in
-          omega (arith, ap total mine, ap total others, ap total mine-n, ap total others-n, sum-shared n (le-refl n))
+          | yes h ↦ rw (sum-shared k h) (sum-le-inside k k (le-refl k) h)
+          | no h ↦
+              let past : n ≤ k = omega arith in
+              let whole = sum-le-inside n n (le-refl n) (le-refl n) in
+              let mine = take-all k (shared limit n) (omega (arith, shared-competes .rows)) in
+              let others = take-all k other (omega (arith, c .rows)) in
+              let mine-n = take-all n (shared limit n) (omega (arith, shared-competes .rows)) in
+              let others-n = take-all n other (omega (arith, c .rows)) in
+              omega (arith, ap total mine, ap total others, ap total mine-n, ap total others-n, sum-shared n (le-refl n))
         ]
 
     module _ (levers : List ℕ) (f : Falling levers n) where
@@ -85,7 +85,7 @@ module _ (limit : Table) (n : ℕ) where
             first = λ h. omega arith;
             falls = λ k h. f .falls k (omega (arith, f .rows));
             positive = omega arith;
-            positives = λ k h. f .positive k (omega (arith, f .rows))
+            positives = λ k h. f .positive k (omega (arith, f .rows));
           }
 
       ahead : (k : ℕ) → total (take k other) ≤ 0 + total (take k (shared limit n))
@@ -97,12 +97,11 @@ module _ (limit : Table) (n : ℕ) where
           omega (arith, zero-mul (suc (getD levers 0 0)))
 
       pub same-exactly : (other ≡ shared limit n) ↔ (moment levers other ≡ moment levers (shared limit n))
-      same-exactly =
-          (
-            (λ e. ap (moment levers) e),
-            (λ e. moment-eq levers (shared limit n) other 0 _ from-above (shared-competes .rows ∙ sym (f .rows)) (c .rows ∙ sym (f .rows)) ahead
-              (omega (arith, e, zero-mul (suc (getD levers 0 0)))) .1),
-          )
+      same-exactly = (
+        (λ e. ap (moment levers) e),
+        (λ e. moment-eq levers (shared limit n) other 0 _ from-above (shared-competes .rows ∙ sym (f .rows)) (c .rows ∙ sym (f .rows)) ahead
+            (omega (arith, e, zero-mul (suc (getD levers 0 0)))) .1),
+      )
 
   not-passed : (smaller larger : Bool) → (smaller ≡ true → larger ≡ true) → larger ≡ false → smaller ≡ false
   not-passed true larger up fail = sym (up refl) ∙ fail
@@ -115,10 +114,9 @@ module _ (limit : Table) (n : ℕ) where
         sums = sum-le-shared;
         moments = λ levers f other c. moment-le-shared other c levers f;
         same = λ levers f other c. same-exactly other c levers f;
-        fails = λ levers f passes m.
-          (
-            (λ fail other c. not-passed (passes (moment levers other)) (passes (moment levers (shared limit n)))
+        fails = λ levers f passes m. (
+          (λ fail other c. not-passed (passes (moment levers other)) (passes (moment levers (shared limit n)))
               (m .larger _ _ (moment-le-shared other c levers f)) fail),
-            (λ all. all (shared limit n) shared-competes),
-          )
+          (λ all. all (shared limit n) shared-competes),
+        );
       }

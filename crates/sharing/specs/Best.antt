@@ -20,11 +20,11 @@ pub record Best (limit : Table) (n : ℕ) (forces : List ℕ) : Type 0 where
   pub sums : (other : List ℕ) → Competes limit n other → (k : ℕ) → total (take k other) ≤ total (take k forces)
   -- its moment is at most this list's
   pub moments : (levers : List ℕ) → Falling levers n → (other : List ℕ) → Competes limit n other
-    → moment levers other ≤ moment levers forces
+      → moment levers other ≤ moment levers forces
   -- it equals this list exactly when the moments are equal
   pub same : (levers : List ℕ) → Falling levers n → (other : List ℕ) → Competes limit n other
-    → (other ≡ forces) ↔ (moment levers other ≡ moment levers forces)
+      → (other ≡ forces) ↔ (moment levers other ≡ moment levers forces)
   -- this list fails a test exactly when every list that competes fails it
   pub fails : (levers : List ℕ) → Falling levers n → (passes : ℕ → Bool) → Monotone passes
-    → (passes (moment levers forces) ≡ false)
-    ↔ ((other : List ℕ) → Competes limit n other → passes (moment levers other) ≡ false)
+      → (passes (moment levers forces) ≡ false)
+      ↔ ((other : List ℕ) → Competes limit n other → passes (moment levers other) ≡ false)

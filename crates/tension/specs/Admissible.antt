@@ -1,12 +1,19 @@
--- What refusals 10 to 13 leave of a joint: what its limits may rely on. Work establishes it.
+-- What a joint's limits rely on, which Work establishes, and what they come to: a table in Allocate's order.
 -- Assumes nothing.
 use mathlib.Core.Path.{_≡_}
 use Prim.Native.Nat.{ℕ, suc, _≤_, _<_}
+use mathlib.Core.List.{List}
 use lib.ListN.{getD}
 use Rattle.joint.specs.declared.Joint.{Joint}
 use Rattle.joint.specs.InRange.{InRange}
-use Rattle.tension.specs.Spacing.{columnM, plateM, columnEdge, plateEdge, extensionM}
+use Rattle.strength.specs.Steel.{steelStrengths}
+use Rattle.strength.specs.Bolt.{pairTension}
+use Rattle.strength.specs.declared.SteelStrengths.{SteelStrengths}
+use Rattle.sharing.specs.Groups.{Table, listed}
+use Rattle.tension.specs.Spacing.{columnM, plateM, columnEdge, plateEdge, extensionM, spacingOf}
+use Rattle.tension.specs.declared.Spacing.{Spacing}
 
+-- What refusals 10 to 13 leave.
 pub record Admissible (joint : Joint) : Type 0 where
   -- refusal 10
   pub in-range : InRange joint
@@ -18,3 +25,20 @@ pub record Admissible (joint : Joint) : Type 0 where
   pub extension-m : joint .face .extended ≡ 1 → 500 ≤ extensionM (joint .face)
   pub column-edge : 1000 ≤ columnEdge (joint .column) (joint .face .layout)
   pub plate-edge : 1000 ≤ plateEdge (joint .face)
+
+-- The distances and strengths that go with a joint.
+pub record Measured (joint : Joint) (spacing : Spacing) (steel : SteelStrengths) (pair : ℕ) : Type 0 where
+  pub distances : spacing ≡ spacingOf (joint .column) (joint .face)
+  pub strengths : steel ≡ steelStrengths (joint .column) (joint .face .beam) (joint .face .plate)
+  pub bolts : pair ≡ pairTension (joint .bolts)
+
+-- Levers of at most eight rows, none below one under it.
+pub record Levers (n : ℕ) (levers : List ℕ) : Type 0 where
+  pub rows : n ≤ 8
+  pub fall : (i j : ℕ) → i ≤ j → j < n → getD levers j 0 ≤ getD levers i 0
+  pub high : (i : ℕ) → i < n → getD levers i 0 ≤ 20000
+
+-- A list of limits in Allocate's order that agrees with a table on every group of n rows, and has no limit that Allocate refuses.
+pub record Filled (n : ℕ) (limit : Table) (limits : List ℕ) : Type 0 where
+  pub agrees : (i j : ℕ) → i ≤ j → j < n → listed n limits i j ≡ limit i j
+  pub bounded : (k : ℕ) → getD limits k 0 ≤ 4000000000

@@ -33,19 +33,19 @@ dimensionsOf column bolts face =
     let yb = steelStrength (face .beam .grade) (face .beam .flange) in
     let yp = steelStrength (face .plate .grade) (face .plate .thickness) in
     let W = pairTension bolts in
-    record
-      { column = stubOf mc (effectiveEdge ec ep mc) (column .flange) yc W
-      ; plate = stubOf mp (effectiveEdge ec ep mp) (face .plate .thickness) yp W
-      ; «column_lengths» = lengthsOf mc ec
-      ; «plate_lengths» = lengthsOf mp ep
-      ; «near_flange» = face .layout .alpha * mp / 100
-      ; extension = cond (eqb (face .extended) 0) 0 (extensionBending bolts face)
-      ; gauge = 173 * g
-      ; «column_web» = column .web * yc
-      ; «beam_web» = face .beam .web * yb
-      ; pair = W
-      ; first = face .extended
-      }
+    record {
+      column = stubOf mc (effectiveEdge ec ep mc) (column .flange) yc W;
+      plate = stubOf mp (effectiveEdge ec ep mp) (face .plate .thickness) yp W;
+      «column_lengths» = lengthsOf mc ec;
+      «plate_lengths» = lengthsOf mp ep;
+      «near_flange» = face .layout .alpha * mp / 100;
+      extension = cond (eqb (face .extended) 0) 0 (extensionBending bolts face);
+      gauge = 173 * g;
+      «column_web» = column .web * yc;
+      «beam_web» = face .beam .web * yb;
+      pair = W;
+      first = face .extended;
+    }
 
 -- the effective length of a group: the smaller of two patterns, with the rise s
 abbrev pub lengthBy : (circular side s : ℕ) → ℕ
@@ -84,10 +84,10 @@ websBy d i s limit =
 unfoldable pub limitBy : Dimensions → (i k s : ℕ) → ℕ
 limitBy d i k s = websBy d i s (plateBy d i k s (columnBy d k s))
 
--- How large the figures are: what a T-stub is made from, and what comes of it.
-pub record StubParts (m n t y W : ℕ) : Type 0 where
+-- How large the figures are: what a T-stub is made from (n' is the lesser of the edge and 5m÷4), and what comes of it.
+pub record StubParts (m edge t y W : ℕ) : Type 0 where
   pub distance : Within (500 to 202500) m
-  pub edge : Within (0 to 20000) n
+  pub edge-most : Within (0 to 30000) edge
   pub thickness : Within (0 to 500) t
   pub strength : Within (0 to 355) y
   pub pair : Within (0 to 785400) W
@@ -95,8 +95,8 @@ pub record StubParts (m n t y W : ℕ) : Type 0 where
 pub record StubWithin (stub : Stub) : Type 0 where
   pub flexure : Within (0 to 88750000) (stub .flexure)
   pub yielding : Within (50000 to 20250000) (stub .yielding)
-  pub prying : Within (0 to 3141600000000) (stub .prying)
-  pub breaking : Within (100000 to 45000000) (stub .breaking)
+  pub prying : Within (0 to 4712400000000) (stub .prying)
+  pub breaking : Within (100000 to 46500000) (stub .breaking)
 
 pub record LengthsWithin (lengths : Lengths) : Type 0 where
   pub circular : Within (0 to 94245) (lengths .circular)

@@ -38,10 +38,10 @@ rise face i j = getD (face .levers) i 0 - getD (face .levers) j 0
 
 -- all of a joint's
 abbrev pub spacingOf : Column → Face → Spacing
-spacingOf column face = record
-  { column = columnM column (face .layout)
-  ; plate = plateM face
-  ; «column_edge» = columnEdge column (face .layout)
-  ; «plate_edge» = plateEdge face
-  ; extension = extensionM face
-  }
+spacingOf column face = record {
+  column = columnM column (face .layout);
+  plate = plateM face;
+  «column_edge» = columnEdge column (face .layout);
+  «plate_edge» = plateEdge face;
+  extension = extensionM face;
+}

@@ -1,14 +1,20 @@
 // The tension side: the limit of every group of bolt rows (document 01, 'Group limits'). Rows count from 0.
 // Lengths are in hundredths of a millimetre. Work calls these for joints that refusals 10 to 13 let pass.
 ghost use mathlib.Core.Path.{_≡_};
-ghost use Prim.Native.Nat.{ℕ, _+_, _-_, _*_, _≤_, _<_, min};
+ghost use Prim.Native.Nat.{ℕ, _+_, _-_, _*_, _/_, _≤_, _<_, min};
+ghost use mathlib.Core.Bool.{cond};
+ghost use lib.Dec.{eqb};
+ghost use lib.ListN.{getD};
 ghost use Rattle.arithmetic.specs.Range.{Within, _to_};
 ghost use Rattle.tension.specs.Spacing.{spacingOf};
+ghost use Rattle.tension.specs.Limits.{extensionBending, rowsIn, groupLimit};
+ghost use Rattle.tension.specs.Admissible.{Admissible, Measured, Levers, Filled};
 ghost use Rattle.tension.specs.Bending.{extensionLength};
-ghost use Rattle.tension.specs.Dimensions.{stubOf, lengthsOf, lengthBy, bendingBy, webBy, columnBy, plateSideBy, plateBy, websBy, limitBy, StubParts, StubWithin, DimensionsWithin};
+ghost use Rattle.tension.specs.Dimensions.{stubOf, lengthsOf, lengthBy, bendingBy, webBy, columnBy, plateSideBy, plateBy, websBy, limitBy, dimensionsOf, StubParts, StubWithin, DimensionsWithin};
 use joint::Column;
 use joint::Face;
 use joint::Joint;
+use strength::SteelStrengths;
 
 // Distances about the bolts.
 pub struct Spacing {
@@ -121,17 +127,27 @@ fn least(a: u64, b: u64) -> u64
     if a < b { a } else { b }
 }
 
-// The T-stub of a flange or plate, from m, n', its thickness and strength, and W.
-fn stub_of(m: u64, edge: u64, thickness: u64, strength: u64, pair: u64) -> Stub
+// The T-stub of a flange or plate, from m, the edge distance that n' is at most, thickness, strength and W.
+fn stub_of(m: u64, edge: u64, thickness: u32, strength: u64, pair: u64) -> Stub
     requires { ⌜ StubParts m edge thickness strength pair ⌝ }
-    ensures { λ r. ⌜ r ≡ stubOf m edge thickness strength pair ⌝ }
+    ensures { λ r. ⌜ r ≡ stubOf m (min edge (5 * m / 4)) thickness strength pair ⌝ }
 {
+    let effective = least(edge, 5 * m / 4);
+    let t = thickness as u64;
     Stub {
-        flexure: thickness * thickness * strength,
+        flexure: t * t * strength,
         yielding: 100 * m,
-        prying: 200 * edge * pair,
-        breaking: 200 * (m + edge),
+        prying: 200 * effective * pair,
+        breaking: 200 * (m + effective),
     }
+}
+
+// A field times a figure.
+fn times(a: u32, b: u64) -> u64
+    requires { ⌜ Within (0 to 3000) a × Within (0 to 15000) b ⌝ }
+    ensures { λ r. ⌜ r ≡ a * b ⌝ }
+{
+    (a as u64) * b
 }
 
 fn lengths_of(m: u64, edge: u64) -> Lengths
@@ -165,22 +181,23 @@ fn bending(stub: Stub, pair: u64, rows: u64, length: u64) -> u64
 }
 
 // The least of seven patterns about the extension row.
-fn extension_length(m: u64, edge: u64, plate_edge: u64, gauge: u64, width: u64) -> u64
+fn extension_length(m: u64, edge: u32, plate_edge: u64, gauge: u32, width: u32) -> u64
     requires { ⌜ (m ≤ 202500) × (edge ≤ 2000) × («plate_edge» ≤ 30000) × (gauge ≤ 3000) × (width ≤ 6000) ⌝ }
     ensures { λ r. ⌜ r ≡ extensionLength m edge «plate_edge» gauge width ⌝ }
 {
     let half_circle = 6283 * m / 2000;
-    let end = 10 * edge;
+    let end = 10 * (edge as u64);
+    let g = gauge as u64;
     let corner = 2 * m + 5 * end / 8;
     let circles = least(
-        least(6283 * m / 1000, half_circle + 10 * gauge),
+        least(6283 * m / 1000, half_circle + 10 * g),
         half_circle + 2 * plate_edge,
     );
     let ends = least(
         least(least(circles, 4 * m + 5 * end / 4), corner + plate_edge),
-        corner + 5 * gauge,
+        corner + 5 * g,
     );
-    least(ends, 5 * width)
+    least(ends, 5 * (width as u64))
 }
 
 // The bending limit of a group's column flange.
@@ -253,4 +270,92 @@ fn group_limit(d: Dimensions, row: usize, rows: u64, rise: u64) -> u64
     let flange = column_limit(d, rows, rise);
     let plate = with_plate(d, row, rows, rise, flange);
     with_webs(d, row, rise, plate)
+}
+
+// The limit of every group of a joint's rows: groups 1–1, 1–2, .. 1–n, 2–2 and so on.
+pub fn group_limits(joint: Joint, spacing: Spacing, steel: SteelStrengths, pair: u64) -> [u64; 36]
+    requires { ⌜ Admissible joint ⌝ }
+    requires { ⌜ Measured joint spacing steel pair ⌝ }
+    ensures { λ r. ⌜ Filled (joint .face .rows) (groupLimit (joint .column) (joint .bolts) (joint .face)) r ⌝ }
+{
+    let d = dimensions_of(joint, spacing, steel, pair);
+    let face = joint.face;
+    let levers = face.levers;
+    fill_limits(d, face.rows as usize, levers)
+}
+
+// What of the limits hangs on no group.
+fn dimensions_of(joint: Joint, spacing: Spacing, steel: SteelStrengths, pair: u64) -> Dimensions
+    requires { ⌜ Admissible joint ⌝ }
+    requires { ⌜ Measured joint spacing steel pair ⌝ }
+    ensures { λ r. ⌜ r ≡ dimensionsOf (joint .column) (joint .bolts) (joint .face) ⌝ }
+{
+    let column = joint.column;
+    let face = joint.face;
+    let edge = least(spacing.column_edge, spacing.plate_edge);
+    Dimensions {
+        column: stub_of(spacing.column, edge, column.flange, steel.column, pair),
+        plate: stub_of(spacing.plate, edge, face.plate.thickness, steel.plate, pair),
+        column_lengths: lengths_of(spacing.column, spacing.column_edge),
+        plate_lengths: lengths_of(spacing.plate, spacing.plate_edge),
+        near_flange: times(face.layout.alpha, spacing.plate) / 100,
+        extension: extension_limit(joint, spacing, steel, pair),
+        gauge: times(face.layout.gauge, 173),
+        column_web: times(column.web, steel.column),
+        beam_web: times(face.beam.web, steel.beam),
+        pair,
+        first: face.extended as usize,
+    }
+}
+
+// The plate limit of the extension row alone, 0 if flush.
+fn extension_limit(joint: Joint, spacing: Spacing, steel: SteelStrengths, pair: u64) -> u64
+    requires { ⌜ Admissible joint ⌝ }
+    requires { ⌜ Measured joint spacing steel pair ⌝ }
+    ensures { λ r. ⌜ r ≡ cond (eqb (joint .face .extended) 0) 0 (extensionBending (joint .bolts) (joint .face)) ⌝ }
+{
+    let plate = joint.face.plate;
+    let layout = joint.face.layout;
+    if joint.face.extended == 0 {
+        return 0;
+    }
+    let m = spacing.extension;
+    let stub = stub_of(
+        m,
+        times(layout.edge, 10),
+        plate.thickness,
+        steel.plate,
+        pair,
+    );
+    let length = extension_length(
+        m,
+        layout.edge,
+        spacing.plate_edge,
+        layout.gauge,
+        plate.width,
+    );
+    bending(stub, pair, 1, length)
+}
+
+// Every group's limit, row by row and from the shortest group to the longest.
+fn fill_limits(d: Dimensions, rows: usize, levers: [u32; 8]) -> [u64; 36]
+    requires { ⌜ DimensionsWithin d ⌝ }
+    requires { ⌜ Levers rows levers ⌝ }
+    ensures { λ r. ⌜ Filled rows (λ i j. limitBy d i (rowsIn i j) (getD levers i 0 - getD levers j 0)) r ⌝ }
+{
+    let mut table = [0u64; 36];
+    let mut next = 0;
+    let mut row = 0;
+    let mut last = 0;
+    while row < rows {
+        let rise = (levers[row] - levers[last]) as u64;
+        table[next] = group_limit(d, row, (last - row) as u64 + 1, rise);
+        next += 1;
+        last += 1;
+        if last == rows {
+            row += 1;
+            last = row;
+        }
+    }
+    table
 }

@@ -60,8 +60,8 @@ unfolding groupCount
 returns-3 c =
     let rows = c .before .before .before .before .before .before .row-count .ensures in
     let e = c .refused3 .ensures
-          ∙ refused-by-8 _ _ _ rows (c .before .before .before .before .before .if1 .left) (c .before .before .before .before .if2 .left) _
-          (c .before .before .none-above .ensures) (c .before .if3 .taken) in
+    ∙ refused-by-8 _ _ _ rows (c .before .before .before .before .before .if1 .left) (c .before .before .before .before .if2 .left) _
+    (c .before .before .none-above .ensures) (c .before .if3 .taken) in
     (e, no-refusal-is-best _ _ _ e)
 
 share-requires : tie.Need-share-requires
@@ -76,8 +76,8 @@ unfolding groupCount
 returns-4 c =
     let rows = c .before .before .before .before .before .before .row-count .ensures in
     let e = (λ i. record { refusal = 0; forces = c .share .ensures i })
-          ∙ taken _ _ _ rows (c .before .before .before .before .before .if1 .left) (c .before .before .before .before .if2 .left) _
-          (c .before .before .none-above .ensures) (c .before .if3 .left) in
+    ∙ taken _ _ _ rows (c .before .before .before .before .before .if1 .left) (c .before .before .before .before .if2 .left) _
+    (c .before .before .none-above .ensures) (c .before .if3 .left) in
     (e, no-refusal-is-best _ _ _ e)
 
 pub allocate-spec : {M : Type 1} → statement M

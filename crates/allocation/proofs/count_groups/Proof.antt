@@ -47,8 +47,7 @@ shared-slice-read-lowered c =
 loop-holds : tie.Need-loop-holds Inv-loop μ-loop
 loop-holds c =
     let s = c .before .before in
-    let whole : suc (s .args .count - 1) ≡ s .args .count = omega arith in
-    (
+    let whole : suc (s .args .count - 1) ≡ s .args .count = omega arith in (
       omega arith,
       omega arith,
       lowest _ _ _ _ _ (s .pre .1 .1) whole,
@@ -115,8 +114,7 @@ loop-again : tie.Need-loop-again Inv-loop μ-loop
 loop-again c =
     let s = c .before .before .before .before .before .before .before .before in
     let l = c .before .before .before .before .before .loop in
-    let next : suc (l .last - 1) ≡ l .last = omega arith in
-    (
+    let next : suc (l .last - 1) ≡ l .last = omega arith in (
       omega arith,
       omega arith,
       c .least2 .ensures

@@ -25,8 +25,7 @@ loop-holds c = start _ _ (c .before .pre)
 count-groups-requires : tie.Need-count-groups-requires Inv-loop μ-loop
 count-groups-requires c κs =
     let s = c .before .before .before .before in
-    let l = c .before .before .loop in
-    (
+    let l = c .before .before .loop in (
       s .pre,
       (c .before .loop-test .taken, l .inv .place, omega (arith, l .inv .sum, sum-le-most _ _ (s .pre) (l .row) (l .inv .rows)), omega (arith, l .inv .size, s .pre .rows)),
     )

@@ -1,6 +1,4 @@
 -- `extension_length` meets its contract: the seven patterns, the least so far first. Assumes nothing.
-use mathlib.Core.Path.{_≡_, refl, sym, ap, _∙_}
-use Prim.Native.Nat.{ℕ, min}
 use Rattle.tension.specs.Bending.{extensionLength}
 use borrow.Author.Needs.{needs}
 use Rattle.tension.proofs.extension_length.Statement.{statement}
@@ -78,9 +76,14 @@ least-requires-6 c κs = search needs
 returns : tie.Need-returns
 unfolding extensionLength
 returns c =
-    rw
-    (c .least6 .ensures, c .before .least5 .ensures, c .before .before .least4 .ensures, c .before .before .before .least3 .ensures,
-      c .before .before .before .before .least2 .ensures, c .before .before .before .before .before .least .ensures)
+    rw (
+      c .least6 .ensures,
+      c .before .least5 .ensures,
+      c .before .before .least4 .ensures,
+      c .before .before .before .least3 .ensures,
+      c .before .before .before .before .least2 .ensures,
+      c .before .before .before .before .before .least .ensures,
+    )
 
 pub extension-length-spec : {M : Type 1} → statement M
 extension-length-spec =

@@ -23,13 +23,13 @@ extension-distance-requires c κs = search needs
 
 returns : tie.Need-returns
 returns c =
-    λ i. record
-      { column = c .before .before .before .before .bolt-distance .ensures i
-      ; plate = c .before .before .before .bolt-distance2 .ensures i
-      ; «column_edge» = c .before .before .edge-distance .ensures i
-      ; «plate_edge» = c .before .edge-distance2 .ensures i
-      ; extension = c .extension-distance .ensures i
-      }
+    λ i. record {
+      column = c .before .before .before .before .bolt-distance .ensures i;
+      plate = c .before .before .before .bolt-distance2 .ensures i;
+      «column_edge» = c .before .before .edge-distance .ensures i;
+      «plate_edge» = c .before .edge-distance2 .ensures i;
+      extension = c .extension-distance .ensures i;
+    }
 
 pub spacing-of-spec : {M : Type 1} → statement M
 spacing-of-spec =

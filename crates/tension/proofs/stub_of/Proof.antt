@@ -1,32 +1,61 @@
 -- `stub_of` meets its contract: the products fit, since its parts are bounded. Assumes nothing.
+use mathlib.Core.Path.{_≡_, refl, sym, ap, _∙_}
+use Prim.Native.Nat.{_*_, _+_, zero-le}
+use native.Mathlib.Nat.{le-trans, min-le-left}
+use native.Mathlib.Omega.{arith}
+use Rattle.arithmetic.specs.Range.{Within, _to_}
 use Rattle.arithmetic.proofs.Bounds.{exactly, _⊗_, _⊕_, _⊘_, fits}
+use Rattle.tension.specs.Dimensions.{stubOf}
 use borrow.Author.Needs.{needs}
 use Rattle.tension.proofs.stub_of.Statement.{statement}
 use Rattle.tension.proofs.stub_of.Tie as tie
 
-mul-t6 : tie.Need-mul-t6
-mul-t6 c = fits (c .pre .thickness ⊗ c .pre .thickness) tt
+mul-least : tie.Need-mul-least
+mul-least c = search needs
 
-mul-t7 : tie.Need-mul-t7
-mul-t7 c = fits (c .pre .thickness ⊗ c .pre .thickness ⊗ c .pre .strength) tt
+least-requires : tie.Need-least-requires
+least-requires c κs = search needs
 
 mul-t8 : tie.Need-mul-t8
-mul-t8 c = search needs
+mul-t8 c = fits (c .before .pre .thickness ⊗ c .before .pre .thickness) tt
 
 mul-t9 : tie.Need-mul-t9
-mul-t9 c = search needs
+mul-t9 c = fits (c .before .pre .thickness ⊗ c .before .pre .thickness ⊗ c .before .pre .strength) tt
 
 mul-t10 : tie.Need-mul-t10
-mul-t10 c = fits (exactly 200 ⊗ c .pre .edge ⊗ c .pre .pair) tt
+mul-t10 c = search needs
 
-add-t11 : tie.Need-add-t11
-add-t11 c = search needs
+mul-t11 : tie.Need-mul-t11
+mul-t11 c = search needs
 
 mul-t12 : tie.Need-mul-t12
-mul-t12 c = search needs
+mul-t12 c =
+    let p = c .before .pre in
+    let edge : Within (0 to 30000) (c .least .result) = record { low = zero-le; high = omega (arith, c .least .ensures, p .edge-most .high) } in
+    fits (exactly 200 ⊗ edge ⊗ p .pair) tt
+
+add-t13 : tie.Need-add-t13
+add-t13 c = search needs
+
+mul-t14 : tie.Need-mul-t14
+mul-t14 c = search needs
 
 returns : tie.Need-returns
-returns c = search needs
+returns c =
+    let a = c .before .args in
+    λ i. stubOf (a .m) (c .least .ensures i) (a .thickness) (a .strength) (a .pair)
 
 pub stub-of-spec : {M : Type 1} → statement M
-stub-of-spec = tie.close (tie.spec mul-t6 mul-t7 mul-t8 mul-t9 mul-t10 add-t11 mul-t12 returns)
+stub-of-spec =
+    tie.close
+    (tie.spec
+    mul-least
+    least-requires
+    mul-t8
+    mul-t9
+    mul-t10
+    mul-t11
+    mul-t12
+    add-t13
+    mul-t14
+    returns)

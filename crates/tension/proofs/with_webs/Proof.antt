@@ -26,7 +26,7 @@ returns c =
     simp (lt-ltb _ _ (c .before .before .if1 .taken))
     (c .least2 .ensures
     ∙ (λ i. min ((c .before .before .before .before .least .ensures ∙ ap (min (s .args .limit)) (c .before .before .before .before .before .web-tension .ensures)) i)
-      (c .before .web-tension2 .ensures i)))
+    (c .before .web-tension2 .ensures i)))
 
 returns-2 : tie.Need-returns-2
 unfolding websBy

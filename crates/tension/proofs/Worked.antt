@@ -1,0 +1,135 @@
+-- A group's limit from the figures worked once is document 01's limit: each product is the paper's in another order, and the
+-- limits that apply are counted in the paper's order. Assumes nothing.
+use mathlib.Core.Path.{_≡_, refl, sym, ap, ap₂, _∙_}
+use mathlib.Core.Bool.{Bool, true, false, cond}
+use Prim.Native.Nat.{ℕ, zero, suc, _+_, _-_, _*_, _/_, _≤_, _<_, min}
+use native.Mathlib.Nat.{mul-assoc, mul-comm, mul-right-comm, mul-le-mul, le-trans, le-refl, min-le-left, min-le-right}
+use native.Mathlib.Omega.{arith}
+use mathlib.Core.List.{List, [], _∷_, _++_}
+use lib.Dec.{ltb, eqb}
+use borrow.Author.Tests.{ltb-true, ne-eqb}
+use Rattle.joint.specs.declared.Column.{Column}
+use Rattle.joint.specs.declared.Bolts.{Bolts}
+use Rattle.joint.specs.declared.Face.{Face}
+use Rattle.joint.specs.declared.Joint.{Joint}
+use Rattle.strength.specs.Steel.{steelStrength}
+use Rattle.strength.specs.declared.SteelStrengths.{SteelStrengths}
+use Rattle.tension.specs.Bending.{leastOf, extensionLength, bending}
+use Rattle.tension.specs.Spacing.{rise}
+use Rattle.tension.specs.Web.{webTension}
+use Rattle.tension.specs.Limits.{rowsIn, columnFlangeBending, extensionBending, endPlateBending, endPlateLimits, columnWebTension, beamWebLimits, groupLimit}
+use Rattle.tension.specs.Dimensions.{stubOf, dimensionsOf, lengthBy, bendingBy, webBy, columnBy, plateSideBy, plateBy, websBy, limitBy, DimensionsWithin}
+use Rattle.tension.specs.Admissible.{Measured}
+use Rattle.tension.specs.declared.Spacing.{Spacing}
+use Rattle.tension.specs.declared.Stub.{Stub}
+use Rattle.tension.specs.declared.Dimensions.{Dimensions}
+
+pub bending-worked : (m n t y W k L : ℕ) → bendingBy (stubOf m n t y W) W k L ≡ bending m n t y W k L
+unfolding bendingBy bending
+bending-worked m n t y W k L =
+    let flexure : L * (t * t * y) ≡ L * (t * t) * y = sym (mul-assoc L (t * t) y) in
+    let prying : k * (200 * n * W) ≡ 200 * n * k * W = mul-comm k (200 * n * W) ∙ mul-right-comm (200 * n) W k in
+    rw (flexure, prying)
+
+web-worked : (g s t y : ℕ) → webBy (173 * g) s (t * y) ≡ webTension g s t y
+unfolding webTension
+web-worked g s t y = ap (λ p. p / 10000) (sym (mul-assoc (173 * g + 100 * s) t y))
+
+-- the limits that apply, counted one after the other
+abbrev counted : (above alone below : Bool) (flange extension plate column beam : ℕ) → ℕ
+counted above alone below flange extension plate column beam =
+    let limit = min (cond above (cond alone (min flange extension) flange) (min flange plate)) column in cond below (min limit beam) limit
+
+in-order : (above alone below : Bool) (flange extension plate column beam : ℕ)
+    → counted above alone below flange extension plate column beam
+    ≡ leastOf flange (cond above (cond alone (extension ∷ []) []) (plate ∷ []) ++ (column ∷ cond below (beam ∷ []) []))
+in-order true true true flange extension plate column beam = refl
+in-order true true false flange extension plate column beam = refl
+in-order true false true flange extension plate column beam = refl
+in-order true false false flange extension plate column beam = refl
+in-order false alone true flange extension plate column beam = refl
+in-order false alone false flange extension plate column beam = refl
+
+-- above the first row under the flange the plate is extended
+extension-counts : (extended i x : ℕ) (above : Bool) → ltb i extended ≡ above → (alone below : Bool) (flange plate column beam : ℕ)
+    → counted above alone below flange (cond (eqb extended 0) 0 x) plate column beam ≡ counted above alone below flange x plate column beam
+extension-counts extended i x true e alone below flange plate column beam =
+    let more = ltb-true i extended e in rw (ne-eqb extended 0 (omega arith))
+extension-counts extended i x false e alone below flange plate column beam = refl
+
+length-either : (near : Bool) (c a b s : ℕ) → lengthBy c (cond near a b) s ≡ cond near (lengthBy c a s) (lengthBy c b s)
+length-either true c a b s = refl
+length-either false c a b s = refl
+
+module _ (column : Column) (bolts : Bolts) (face : Face) (i j : ℕ) where
+  column-worked : columnBy (dimensionsOf column bolts face) (rowsIn i j) (rise face i j) ≡ columnFlangeBending column bolts face i j
+  unfolding columnBy dimensionsOf columnFlangeBending
+  column-worked = bending-worked _ _ _ _ _ _ _
+
+  plate-worked :
+      (let d = dimensionsOf column bolts face in
+      bendingBy (d .plate) (d .pair) (rowsIn i j) (lengthBy (d .«plate_lengths» .circular) (plateSideBy d i) (rise face i j)))
+      ≡ endPlateBending column bolts face i j
+  unfolding dimensionsOf endPlateBending
+  plate-worked =
+      bending-worked _ _ _ _ _ _ _
+      ∙ ap (bending _ _ _ _ _ _) (length-either (eqb i (face .extended)) _ _ _ _)
+
+  pub limit-worked : limitBy (dimensionsOf column bolts face) i (rowsIn i j) (rise face i j) ≡ groupLimit column bolts face i j
+  unfolding limitBy plateBy websBy dimensionsOf groupLimit endPlateLimits beamWebLimits columnWebTension
+  limit-worked =
+      let d = dimensionsOf column bolts face in
+      let above = ltb i (face .extended) in
+      let alone = eqb (rowsIn i j) 1 in
+      let below = ltb (face .extended) i in
+      let web = web-worked (face .layout .gauge) (rise face i j) in
+      (λ t. counted above alone below (column-worked t) (d .extension) (plate-worked t)
+      (web (column .web) (steelStrength (column .grade) (column .flange)) t)
+      (web (face .beam .web) (steelStrength (face .beam .grade) (face .beam .flange)) t))
+      ∙ extension-counts (face .extended) i (extensionBending bolts face) above refl alone below _ _ _ _
+      ∙ in-order above alone below _ _ _ _ _
+
+-- The figures of a joint as measured are the definitions'.
+module _ (joint : Joint) (spacing : Spacing) (steel : SteelStrengths) (pair : ℕ) (measured : Measured joint spacing steel pair)
+    (edge : ℕ) (both : edge ≡ min (spacing .«column_edge») (spacing .«plate_edge»)) where
+  pub column-stub : stubOf (spacing .column) (min edge (5 * spacing .column / 4)) (joint .column .flange) (steel .column) pair
+      ≡ dimensionsOf (joint .column) (joint .bolts) (joint .face) .column
+  unfolding dimensionsOf
+  column-stub = rw (both, measured .distances, measured .strengths, measured .bolts)
+
+  pub plate-stub : stubOf (spacing .plate) (min edge (5 * spacing .plate / 4)) (joint .face .plate .thickness) (steel .plate) pair
+      ≡ dimensionsOf (joint .column) (joint .bolts) (joint .face) .plate
+  unfolding dimensionsOf
+  plate-stub = rw (both, measured .distances, measured .strengths, measured .bolts)
+
+module _ (joint : Joint) (spacing : Spacing) (steel : SteelStrengths) (pair : ℕ) (measured : Measured joint spacing steel pair) where
+  -- the extension row's limit, from its stub and its length
+  pub extension-worked : (end length limit : ℕ) (stub : Stub) → end ≡ joint .face .layout .edge * 10
+      → stub ≡ stubOf (spacing .extension) (min end (5 * spacing .extension / 4)) (joint .face .plate .thickness) (steel .plate) pair
+      → length ≡ extensionLength (spacing .extension) (joint .face .layout .edge) (spacing .«plate_edge») (joint .face .layout .gauge) (joint .face .plate .width)
+      → limit ≡ bendingBy stub pair 1 length → limit ≡ extensionBending (joint .bolts) (joint .face)
+  unfolding extensionBending
+  extension-worked end length limit stub ee es el e =
+      rw (e, es, el, ee, mul-comm (joint .face .layout .edge) 10, measured .distances, measured .strengths, measured .bolts)
+      (bending-worked _ _ _ _ _ _ _)
+
+-- A limit is at most the bolts' own.
+less : (test : Bool) (a b x : ℕ) → a ≤ x → b ≤ x → cond test a b ≤ x
+less true a b x p q = p
+less false a b x p q = q
+
+module _ (d : Dimensions) (i k s : ℕ) where
+  webs-le : (limit : ℕ) → websBy d i s limit ≤ limit
+  unfolding websBy
+  webs-le limit = less (ltb (d .first) i) _ _ limit (le-trans (min-le-left _ _) (min-le-left _ _)) (min-le-left _ _)
+
+  plate-le : (limit : ℕ) → plateBy d i k s limit ≤ limit
+  unfolding plateBy
+  plate-le limit = less (ltb i (d .first)) _ _ limit (less (eqb k 1) _ _ limit (min-le-left _ _) (le-refl limit)) (min-le-left _ _)
+
+  limit-le : limitBy d i k s ≤ k * d .pair
+  unfolding limitBy columnBy bendingBy
+  limit-le = le-trans (webs-le _) (le-trans (plate-le _) (min-le-right _ _))
+
+  pub limit-small : DimensionsWithin d → k ≤ 8 → limitBy d i k s ≤ 4000000000
+  limit-small w few = omega (arith, limit-le, mul-le-mul {n₁ = k} {m₁ = d .pair} {n₂ = 8} {m₂ = 785400} few (w .pair .high))
