@@ -110,31 +110,28 @@ module _ (joint : Joint) (a : Admissible joint) where
   pub sizes : (spacing : Spacing) (steel : SteelStrengths) (pair : ℕ) → Measured joint spacing steel pair → Sizes joint spacing steel pair
   sizes spacing steel pair m = rw (m .distances, m .strengths, m .bolts) own-sizes
 
-  -- the parts of the column's stub and the plate's: n' is at most both edge distances
+  -- the parts of the column's stub and the plate's, n' at most some edge distance
   module _ (spacing : Spacing) (steel : SteelStrengths) (pair : ℕ) (m : Measured joint spacing steel pair) where
-    edge-within : Within (0 to 30000) (min (spacing .«column_edge») (spacing .«plate_edge»))
-    edge-within = record { low = zero-le; high = le-trans (min-le-left _ _) (sizes spacing steel pair m .column-edge .high) }
-
-    pub column-parts : StubParts (spacing .column) (min (spacing .«column_edge») (spacing .«plate_edge»)) (joint .column .flange) (steel .column) pair
-    column-parts =
+    pub column-parts : (edge : ℕ) → edge ≤ 30000 → StubParts (spacing .column) edge (joint .column .flange) (steel .column) pair
+    column-parts edge h =
         let s = sizes spacing steel pair m in
         record {
           distance = loosen (500 to 202500) (s .column) tt;
-          edge-most = edge-within;
+          edge-most = record { low = zero-le; high = h };
           thickness = loosen (0 to 500) (a .in-range .column .flange) tt;
           strength = s .yc;
-          pair = s .pair-most;
+          pair = s .pair-most
         }
 
-    pub plate-parts : StubParts (spacing .plate) (min (spacing .«column_edge») (spacing .«plate_edge»)) (joint .face .plate .thickness) (steel .plate) pair
-    plate-parts =
+    pub plate-parts : (edge : ℕ) → edge ≤ 30000 → StubParts (spacing .plate) edge (joint .face .plate .thickness) (steel .plate) pair
+    plate-parts edge h =
         let s = sizes spacing steel pair m in
         record {
           distance = loosen (500 to 202500) (s .plate) tt;
-          edge-most = edge-within;
+          edge-most = record { low = zero-le; high = h };
           thickness = loosen (0 to 500) (a .in-range .face .plate .thickness) tt;
           strength = s .yp;
-          pair = s .pair-most;
+          pair = s .pair-most
         }
 
     pub edge-field-le : joint .face .layout .edge ≤ 2000
@@ -163,9 +160,10 @@ module _ (joint : Joint) (a : Admissible joint) where
       = record { distances = refl; strengths = refl; bolts = refl } in
       let s = own-sizes in
       let f = a .in-range .face in
+      let both = le-trans (min-le-left _ _) (s .column-edge .high) in
       record {
-        column = stub-within _ _ _ _ _ (column-parts _ _ _ own);
-        plate = stub-within _ _ _ _ _ (plate-parts _ _ _ own);
+        column = stub-within _ _ _ _ _ (column-parts _ _ _ own _ both);
+        plate = stub-within _ _ _ _ _ (plate-parts _ _ _ own _ both);
         column-lengths = lengths-within _ _ (s .column) (s .column-edge);
         plate-lengths = lengths-within _ _ (s .plate) (s .plate-edge);
         near-flange = loosen (0 to 120000) (f .layout .alpha ⊗ s .plate ⊘ 100) tt;

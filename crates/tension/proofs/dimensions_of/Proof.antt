@@ -2,6 +2,7 @@
 use mathlib.Core.Path.{_≡_, refl, sym, ap, _∙_}
 use Prim.Native.Nat.{ℕ, _*_, _/_}
 use native.Mathlib.Nat.{mul-comm}
+use native.Mathlib.Omega.{arith}
 use Rattle.arithmetic.specs.Range.{Within, _to_}
 use Rattle.arithmetic.proofs.Bounds.{loosen, exactly}
 use Rattle.tension.specs.Dimensions.{lengthsOf, dimensionsOf}
@@ -17,12 +18,16 @@ least-requires c κs = search needs
 stub-of-requires : tie.Need-stub-of-requires
 stub-of-requires c κs =
     let s = c .before .before .before in
-    rw (c .least .ensures) (column-parts (s .args .joint) (s .pre .0) (s .args .spacing) (s .args .steel) (s .args .pair) (s .pre .1))
+    let z = sizes (s .args .joint) (s .pre .0) (s .args .spacing) (s .args .steel) (s .args .pair) (s .pre .1) in
+    column-parts (s .args .joint) (s .pre .0) (s .args .spacing) (s .args .steel) (s .args .pair) (s .pre .1) _
+    (omega (arith, c .least .ensures, z .column-edge .high, z .plate-edge .high))
 
 stub-of-requires-2 : tie.Need-stub-of-requires-2
 stub-of-requires-2 c κs =
     let s = c .before .before .before .before in
-    rw (c .before .least .ensures) (plate-parts (s .args .joint) (s .pre .0) (s .args .spacing) (s .args .steel) (s .args .pair) (s .pre .1))
+    let z = sizes (s .args .joint) (s .pre .0) (s .args .spacing) (s .args .steel) (s .args .pair) (s .pre .1) in
+    plate-parts (s .args .joint) (s .pre .0) (s .args .spacing) (s .args .steel) (s .args .pair) (s .pre .1) _
+    (omega (arith, c .before .least .ensures, z .column-edge .high, z .plate-edge .high))
 
 lengths-of-requires : tie.Need-lengths-of-requires
 lengths-of-requires c κs =
