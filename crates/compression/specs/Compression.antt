@@ -1,10 +1,10 @@
 -- Document 01, 'Compression and the tension cap', to 'The first least of these four governs': the four resistances in newtons, and the
 -- check that governs, with its force. yc and yb stand for `steel .column` and `steel .beam`. Assumes nothing.
-use Prim.Native.Nat.{ℕ, _+_, _*_, _/_, _^_}
+use Prim.Native.Nat.{ℕ, _+_, _*_, _/_, _^_, _≤_}
 use mathlib.Core.Bool.{cond}
 use mathlib.Core.List.{List, [], _∷_}
 use lib.Dec.{leb}
-use Rattle.arithmetic.specs.Greatest.{greatest}
+use Rattle.arithmetic.specs.Greatest.{Greatest, greatest}
 use Rattle.joint.specs.InRange.{ColumnInRange, BeamInRange, PlateInRange, WeldsInRange}
 use Rattle.joint.specs.declared.Column.{Column}
 use Rattle.joint.specs.declared.Beam.{Beam}
@@ -30,7 +30,11 @@ webBearing b yc column = b * column .web * yc / 100
 unfoldable pub bucklingLimit : (b yc : ℕ) → Column → ℕ
 bucklingLimit b yc column = 275 * b * yc * column .web ^ 4
 
--- the greatest w with 16×dc×w² at most that
+-- the greatest w with 16×dc×w² at most that: what makes a number web buckling
+abbrev pub IsWebBuckling : (b yc : ℕ) → Column → ℕ → Type 0
+IsWebBuckling b yc column = Greatest (λ (w : ℕ). 16 * column .clear * (w * w) ≤ bucklingLimit b yc column)
+
+-- and that number, found by search; proofs/Buckling.antt shows that it is, and that nothing else is
 unfoldable pub webBuckling : (b yc : ℕ) → Column → ℕ
 webBuckling b yc column = greatest 32 (λ (w : ℕ). 16 * column .clear * (w * w)) (bucklingLimit b yc column)
 

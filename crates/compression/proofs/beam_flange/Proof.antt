@@ -1,33 +1,27 @@
+-- `compression::beam_flange` meets its contract: the figure is the definition's, and the ranges keep its products within their width.
+-- Assumes nothing.
 use borrow.Author.Needs.{needs}
 use mathlib.Core.Path.{refl}
 use Rattle.arithmetic.proofs.Bounds.{exactly, _⊗_, fits}
 use Rattle.compression.specs.Compression.{beamFlange}
 use Rattle.compression.proofs.beam_flange.Statement.{statement}
 use Rattle.compression.proofs.beam_flange.Tie as tie
-use Rattle.compression.proofs.beam_flange.Reads as reads
-use Rattle.compression.proofs.beam_flange.Lts as lts
 
--- src/lib.rt:69:5
 mul-result : tie.Need-mul-result
 mul-result c = search needs
 
--- src/lib.rt:69:21
 cast-result : tie.Need-cast-result
 cast-result c = search needs
 
--- src/lib.rt:69:5
 mul-result-2 : tie.Need-mul-result-2
 mul-result-2 c = let r = c .before .pre in fits (exactly 7 ⊗ r .0 ⊗ r .1 .flange) tt
 
--- src/lib.rt:69:44
 cast-result-2 : tie.Need-cast-result-2
 cast-result-2 c = search needs
 
--- src/lib.rt:69:5
 mul-result-3 : tie.Need-mul-result-3
 mul-result-3 c = let r = c .before .before .pre in fits (exactly 7 ⊗ r .0 ⊗ r .1 .flange ⊗ r .1 .width) tt
 
--- src/lib.rt:65:1
 returns : tie.Need-returns
 unfolding beamFlange
 returns c = refl

@@ -1,44 +1,35 @@
+-- `compression::bearing_length` meets its contract: the sum is the definition's, and the ranges keep it small.
+-- Assumes nothing.
 use borrow.Author.Needs.{needs}
 use mathlib.Core.Path.{refl}
 use Rattle.compression.specs.Compression.{bearingLength}
 use Rattle.compression.proofs.bearing_length.Statement.{statement}
 use Rattle.compression.proofs.bearing_length.Tie as tie
-use Rattle.compression.proofs.bearing_length.Reads as reads
-use Rattle.compression.proofs.bearing_length.Lts as lts
 
--- src/lib.rt:61:27
 mul-b : tie.Need-mul-b
 mul-b c = search needs
 
--- src/lib.rt:61:13
 add-b : tie.Need-add-b
 add-b c = search needs
 
--- src/lib.rt:61:46
 mul-b-2 : tie.Need-mul-b-2
 mul-b-2 c = search needs
 
--- src/lib.rt:61:13
 add-b-2 : tie.Need-add-b-2
 add-b-2 c = search needs
 
--- src/lib.rt:61:73
 add-b-3 : tie.Need-add-b-3
 add-b-3 c = search needs
 
--- src/lib.rt:61:68
 mul-b-3 : tie.Need-mul-b-3
 mul-b-3 c = search needs
 
--- src/lib.rt:61:13
 add-b-4 : tie.Need-add-b-4
 add-b-4 c = search needs
 
--- src/lib.rt:62:5
 cast-result : tie.Need-cast-result
 cast-result c = search needs
 
--- src/lib.rt:57:1
 returns : tie.Need-returns
 unfolding bearingLength
 returns c = refl

@@ -1,58 +1,43 @@
+-- `compression::governing` meets its contract: the four figures are the definitions', and three comparisons are the first least of them.
+-- Assumes nothing.
 use borrow.Author.Needs.{needs}
 use Rattle.compression.specs.Compression.{governingCheck}
 use Rattle.compression.proofs.Least.{length-range}
 use Rattle.compression.proofs.governing.Statement.{statement}
 use Rattle.compression.proofs.governing.Tie as tie
-use Rattle.compression.proofs.governing.Reads as reads
-use Rattle.compression.proofs.governing.Lts as lts
-use Rattle.compression.proofs.beam_flange.Reads as beam-flange-reads
-use Rattle.compression.proofs.bearing_length.Reads as bearing-length-reads
-use Rattle.compression.proofs.lesser_of.Reads as lesser-of-reads
-use Rattle.compression.proofs.panel_shear.Reads as panel-shear-reads
-use Rattle.compression.proofs.web_bearing.Reads as web-bearing-reads
-use Rattle.compression.proofs.web_buckling.Reads as web-buckling-reads
 
--- src/lib.rt:27:9
 bearing-length-requires : tie.Need-bearing-length-requires
 bearing-length-requires c κs = search needs
 
--- src/lib.rt:28:43
 beam-flange-requires : tie.Need-beam-flange-requires
 beam-flange-requires c κs = search needs
 
--- src/lib.rt:29:45
 web-bearing-requires : tie.Need-web-bearing-requires
 web-bearing-requires c κs =
     let at-start = c .before .before in
     let a = at-start .args in
     let r = at-start .pre in
-    (rw (c .before .bearing-length .ensures) (length-range (a .column) (a .beam) (a .plate) (a .welds) (r .column) (r .beam) (r .plate) (r .welds)), r .steel .column, r .column)
+    (rw (c .before .bearing-length .ensures) (length-range (a .steel) (a .column) (a .beam) (a .plate) (a .welds) r), r .steel .column, r .column)
 
--- src/lib.rt:30:47
 web-buckling-requires : tie.Need-web-buckling-requires
 web-buckling-requires c κs =
     let at-start = c .before .before .before in
     let a = at-start .args in
     let r = at-start .pre in
-    (rw (c .before .before .bearing-length .ensures) (length-range (a .column) (a .beam) (a .plate) (a .welds) (r .column) (r .beam) (r .plate) (r .welds)), r .steel .column, r .column)
+    (rw (c .before .before .bearing-length .ensures) (length-range (a .steel) (a .column) (a .beam) (a .plate) (a .welds) r), r .steel .column, r .column)
 
--- src/lib.rt:31:41
 panel-shear-requires : tie.Need-panel-shear-requires
 panel-shear-requires c κs = search needs
 
--- src/lib.rt:32:25
 lesser-of-requires : tie.Need-lesser-of-requires
 lesser-of-requires c κs = search needs
 
--- src/lib.rt:32:15
 lesser-of-requires-2 : tie.Need-lesser-of-requires-2
 lesser-of-requires-2 c κs = search needs
 
--- src/lib.rt:32:5
 lesser-of-requires-3 : tie.Need-lesser-of-requires-3
 lesser-of-requires-3 c κs = search needs
 
--- src/lib.rt:23:1
 returns : tie.Need-returns
 unfolding governingCheck
 returns c =

@@ -1,22 +1,18 @@
+-- `compression::lesser_of` meets its contract: the test that led to an answer is the definition's.
+-- Assumes nothing.
 use borrow.Author.Needs.{needs}
 use native.Mathlib.Omega.{arith}
 use borrow.Author.Tests.{le-leb, lt-leb}
 use Rattle.compression.specs.Compression.{forceOf, lesser}
 use Rattle.compression.proofs.lesser_of.Statement.{statement}
 use Rattle.compression.proofs.lesser_of.Tie as tie
-use Rattle.compression.proofs.lesser_of.Reads as reads
-use Rattle.compression.proofs.lesser_of.Lts as lts
-use Rattle.compression.proofs.force_of.Reads as force-of-reads
 
--- src/lib.rt:49:8
 force-of-requires : tie.Need-force-of-requires
 force-of-requires c κs = search needs
 
--- src/lib.rt:49:27
 force-of-requires-2 : tie.Need-force-of-requires-2
 force-of-requires-2 c κs = search needs
 
--- src/lib.rt:46:1
 returns : tie.Need-returns
 unfolding lesser
 returns c =
@@ -25,7 +21,6 @@ returns c =
     let second = forceOf (at-start .args .second) in
     rw (le-leb first second (omega arith))
 
--- src/lib.rt:46:1
 returns-2 : tie.Need-returns-2
 unfolding lesser
 returns-2 c =

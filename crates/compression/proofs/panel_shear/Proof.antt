@@ -1,33 +1,27 @@
+-- `compression::panel_shear` meets its contract: the figure is the definition's, and the ranges keep its products within their width.
+-- Assumes nothing.
 use borrow.Author.Needs.{needs}
 use mathlib.Core.Path.{refl}
 use Rattle.arithmetic.proofs.Bounds.{exactly, _⊗_, fits}
 use Rattle.compression.specs.Compression.{panelShear}
 use Rattle.compression.proofs.panel_shear.Statement.{statement}
 use Rattle.compression.proofs.panel_shear.Tie as tie
-use Rattle.compression.proofs.panel_shear.Reads as reads
-use Rattle.compression.proofs.panel_shear.Lts as lts
 
--- src/lib.rt:98:5
 mul-result : tie.Need-mul-result
 mul-result c = search needs
 
--- src/lib.rt:98:21
 cast-result : tie.Need-cast-result
 cast-result c = search needs
 
--- src/lib.rt:98:5
 mul-result-2 : tie.Need-mul-result-2
 mul-result-2 c = let r = c .before .pre in fits (exactly 3 ⊗ r .0 ⊗ r .1 .web) tt
 
--- src/lib.rt:98:43
 cast-result-2 : tie.Need-cast-result-2
 cast-result-2 c = search needs
 
--- src/lib.rt:98:5
 mul-result-3 : tie.Need-mul-result-3
 mul-result-3 c = let r = c .before .before .pre in fits (exactly 3 ⊗ r .0 ⊗ r .1 .web ⊗ r .1 .depth) tt
 
--- src/lib.rt:94:1
 returns : tie.Need-returns
 unfolding panelShear
 returns c = refl

@@ -1,3 +1,6 @@
+-- `compression::web_buckling` meets its contract: what the root answers, in either case, is web buckling, by the law in Buckling.antt.
+-- The ranges only just keep the limit within 64 bits.
+-- Assumes nothing.
 use borrow.Author.Needs.{needs}
 use mathlib.Core.Path.{_≡_, ap, sym, _∙_}
 use Rattle.arithmetic.proofs.Bounds.{exactly, _⊗_, fits}
@@ -5,59 +8,43 @@ use Rattle.compression.specs.Root.{rootOf}
 use Rattle.compression.proofs.Buckling.{buckling-root}
 use Rattle.compression.proofs.web_buckling.Statement.{statement}
 use Rattle.compression.proofs.web_buckling.Tie as tie
-use Rattle.compression.proofs.web_buckling.Reads as reads
-use Rattle.compression.proofs.web_buckling.Lts as lts
-use Rattle.compression.proofs.root.square_root.Reads as square-root-reads
 
--- src/lib.rt:84:15
 cast-web : tie.Need-cast-web
 cast-web c = search needs
 
--- src/lib.rt:85:19
 mul-squared : tie.Need-mul-squared
 mul-squared c = let r = c .before .pre in fits (r .2 .web ⊗ r .2 .web) tt
 
--- src/lib.rt:86:17
 mul-limit : tie.Need-mul-limit
 mul-limit c = search needs
 
--- src/lib.rt:86:17
 mul-limit-2 : tie.Need-mul-limit-2
 mul-limit-2 c = let r = c .before .pre in fits (exactly 275 ⊗ r .0 ⊗ r .1) tt
 
--- src/lib.rt:86:17
 mul-limit-3 : tie.Need-mul-limit-3
 mul-limit-3 c = let r = c .before .pre in fits (exactly 275 ⊗ r .0 ⊗ r .1 ⊗ (r .2 .web ⊗ r .2 .web)) tt
 
--- src/lib.rt:86:17
 mul-limit-4 : tie.Need-mul-limit-4
 mul-limit-4 c = let r = c .before .pre in fits (exactly 275 ⊗ r .0 ⊗ r .1 ⊗ (r .2 .web ⊗ r .2 .web) ⊗ (r .2 .web ⊗ r .2 .web)) tt
 
--- src/lib.rt:87:50
 cast-square-root : tie.Need-cast-square-root
 cast-square-root c = search needs
 
--- src/lib.rt:87:44
 mul-square-root : tie.Need-mul-square-root
 mul-square-root c = search needs
 
--- src/lib.rt:87:35
 div-square-root : tie.Need-div-square-root
 div-square-root c = search needs
 
--- src/lib.rt:87:9
 square-root-requires : tie.Need-square-root-requires
 square-root-requires c κs = search needs
 
--- src/lib.rt:89:24
 enum-known-found : tie.Need-enum-known-found
 enum-known-found c = search needs
 
--- src/lib.rt:90:23
 enum-told : tie.Need-enum-told
 enum-told c = search needs
 
--- src/lib.rt:80:1
 returns : tie.Need-returns
 returns c =
     let at-root = c .before .before .before in
@@ -67,7 +54,6 @@ returns c =
     sym (ap rootOf (c .before .found .given .1))
     ∙ buckling-root (a .length) (a .strength) (a .column) (r .0) (r .1) (r .2) (at-root .square-root .result) (at-root .square-root .ensures)
 
--- src/lib.rt:80:1
 returns-2 : tie.Need-returns-2
 returns-2 c =
     let at-root = c .before .before in

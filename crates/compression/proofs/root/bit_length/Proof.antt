@@ -1,9 +1,9 @@
+-- `compression::root::bit_length` meets its contract. The invariant is a scan's, in Length.antt; the measure is the span, which halves.
+-- Assumes nothing.
 use native.Mathlib.Omega.{arith}
 use Rattle.compression.proofs.root.Length.{Scan, start, lower, upper, end}
 use Rattle.compression.proofs.root.bit_length.Statement.{statement}
 use Rattle.compression.proofs.root.bit_length.Tie as tie
-use Rattle.compression.proofs.root.bit_length.Reads as reads
-use Rattle.compression.proofs.root.bit_length.Lts as lts
 
 abbrev Inv-loop : tie.InvT-loop
 Inv-loop x left₀ dropped₀ span₀ left dropped span = Scan x left dropped span
@@ -11,43 +11,33 @@ Inv-loop x left₀ dropped₀ span₀ left dropped span = Scan x left dropped sp
 abbrev μ-loop : tie.MeasureT-loop
 μ-loop x left₀ dropped₀ span₀ left dropped span = span
 
--- src/root.rt:112:5
 loop-holds : tie.Need-loop-holds Inv-loop μ-loop
 loop-holds c = start (c .pre) (c .fits .x .fits)
 
--- src/root.rt:114:20
 shr-high : tie.Need-shr-high Inv-loop μ-loop
 shr-high c = omega arith
 
--- src/root.rt:112:5
 loop-less : tie.Need-loop-less Inv-loop μ-loop
 loop-less c = omega arith
 
--- src/root.rt:112:5
 loop-again : tie.Need-loop-again Inv-loop μ-loop
 loop-again c = lower (c .before .before .loop .inv) (c .if1 .taken) (c .before .loop-test .taken)
 
--- src/root.rt:119:13
 add-dropped : tie.Need-add-dropped Inv-loop μ-loop
 add-dropped c = omega arith
 
--- src/root.rt:120:13
 sub-span : tie.Need-sub-span Inv-loop μ-loop
 sub-span c = omega arith
 
--- src/root.rt:112:5
 loop-less-2 : tie.Need-loop-less-2 Inv-loop μ-loop
 loop-less-2 c = omega arith
 
--- src/root.rt:112:5
 loop-again-2 : tie.Need-loop-again-2 Inv-loop μ-loop
 loop-again-2 c = upper (c .before .before .loop .inv) (c .if1 .left)
 
--- src/root.rt:123:5
 add-result : tie.Need-add-result Inv-loop μ-loop
 add-result c = omega arith
 
--- src/root.rt:105:1
 returns : tie.Need-returns Inv-loop μ-loop
 returns c = end (c .before .loop .inv) (c .loop-test .left)
 

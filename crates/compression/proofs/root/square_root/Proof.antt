@@ -1,3 +1,6 @@
+-- `compression::root::square_root` meets its contract. The invariant: the guess isn't below the root, and the quotient is x over it. The
+-- measure is the guess, which falls.
+-- Assumes nothing.
 use mathlib.Core.Path.{_≡_, refl, ap}
 use Prim.Native.Nat.{_*_, _/_, _≤_}
 use native.Mathlib.Nat.{le-div-iff-mul-le}
@@ -8,9 +11,6 @@ use Rattle.compression.specs.declared.root.Root.the-variants.{Positive}
 use Rattle.compression.proofs.root.Newton.{positive, next-guess, is-root}
 use Rattle.compression.proofs.root.square_root.Statement.{statement}
 use Rattle.compression.proofs.root.square_root.Tie as tie
-use Rattle.compression.proofs.root.square_root.Reads as reads
-use Rattle.compression.proofs.root.square_root.Lts as lts
-use Rattle.compression.proofs.root.first_guess.Reads as first-guess-reads
 
 abbrev Inv-loop : tie.InvT-loop
 Inv-loop x r₀ quotient₀ r quotient = Guess x r × (quotient ≡ x / r)
@@ -18,44 +18,35 @@ Inv-loop x r₀ quotient₀ r quotient = Guess x r × (quotient ≡ x / r)
 abbrev μ-loop : tie.MeasureT-loop
 μ-loop x r₀ quotient₀ r quotient = r
 
--- src/root.rt:85:9
 returns : tie.Need-returns Inv-loop μ-loop
 unfolding rootCase
 returns c = rw (c .if1 .taken)
 
--- src/root.rt:87:9
 first-guess-requires : tie.Need-first-guess-requires Inv-loop μ-loop
 first-guess-requires c κs = omega arith
 
--- src/root.rt:88:24
 div-quotient : tie.Need-div-quotient Inv-loop μ-loop
 div-quotient c = positive (omega arith) (c .first-guess .ensures .above)
 
--- src/root.rt:89:5
 loop-holds : tie.Need-loop-holds Inv-loop μ-loop
 loop-holds c = (c .first-guess .ensures, refl)
 
--- src/root.rt:90:14
 add-r : tie.Need-add-r Inv-loop μ-loop
 add-r c = omega arith
 
--- src/root.rt:91:20
 div-quotient-2 : tie.Need-div-quotient-2 Inv-loop μ-loop
 div-quotient-2 c =
     let inv = c .before .loop .inv in
     positive (omega arith) (next-guess (omega arith) (inv .0) (inv .1) (c .loop-test .taken) .above)
 
--- src/root.rt:89:5
 loop-less : tie.Need-loop-less Inv-loop μ-loop
 loop-less c = omega arith
 
--- src/root.rt:89:5
 loop-again : tie.Need-loop-again Inv-loop μ-loop
 loop-again c =
     let inv = c .before .loop .inv in
     (next-guess (omega arith) (inv .0) (inv .1) (c .loop-test .taken), refl)
 
--- src/root.rt:81:1
 returns-2 : tie.Need-returns-2 Inv-loop μ-loop
 unfolding rootCase
 returns-2 c =
