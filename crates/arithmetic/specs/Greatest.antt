@@ -2,6 +2,7 @@
 -- after the other, the highest first; that it has the property is a law of proofs/Greatest.antt. Assumes nothing.
 use Prim.Native.Nat.{ℕ, zero, suc, _+_, _^_, _≤_}
 use mathlib.Core.Bool.{Bool, cond}
+use lib.Dec.{leb}
 
 -- w passes, and nothing greater does
 pub record Greatest (Passes : ℕ → Type 0) (w : ℕ) : Type 0 where
@@ -13,6 +14,6 @@ unfoldable pub search-from : (ℕ → Bool) → ℕ → ℕ → ℕ
 search-from test zero found = found
 search-from test (suc digits) found = search-from test digits (cond (test (found + 2 ^ digits)) (found + 2 ^ digits) found)
 
--- the greatest number of so many binary digits that passes
-abbrev pub greatest : (digits : ℕ) → (ℕ → Bool) → ℕ
-greatest digits test = search-from test digits 0
+-- the greatest w of so many binary digits with f w at most the limit
+abbrev pub greatest : (digits : ℕ) → (ℕ → ℕ) → ℕ → ℕ
+greatest digits f limit = search-from (λ (w : ℕ). leb (f w) limit) digits 0

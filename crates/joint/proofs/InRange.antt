@@ -6,17 +6,19 @@ use mathlib.Core.List.{List, [], _∷_, _++_}
 use Prim.Native.Nat.{ℕ, zero, suc, _+_, _-_, _≤_, _<_, zero-le}
 use native.Mathlib.Nat.{add-zero, add-suc, suc-add, zero-add, le-of-suc-le-suc, not-suc-le-zero}
 use native.Mathlib.Omega.{arith}
+use borrow.Author.Tests.{lt-ltb, le-ltb, eq-eqb, ne-eqb}
 use lib.Dec.{T, leb, leb→le}
 use lib.IntN.{ℤ, pos, negsuc, natAbs}
 use lib.ListN.{length, getD}
 use lib.Seq.{getD-append-add}
 use mir.Facts.{and-yes}
-use Rattle.arithmetic.specs.Range.{Within, within}
+use Rattle.arithmetic.specs.Range.{Within, within, _to_}
 use Rattle.arithmetic.proofs.Bounds.{within-yes}
 use Rattle.joint.specs.Ranges.{rowCounts, flags, depths, widths, flanges, webs, radii, clears, plateWidths, thicknesses, gauges, edges, alphas, legs, weldLengths, shearRowCounts, loads, levers}
 use Rattle.joint.specs.Fields.{Field, firstOutside, fieldCheck, fieldsOf, fixedFields, leverFields, withinBothSigns}
-use Rattle.joint.specs.InRange.{InRange}
+use Rattle.joint.specs.InRange.{InRange, FaceInRange}
 use Rattle.joint.specs.declared.Joint.{Joint}
+use Rattle.joint.specs.declared.Face.{Face}
 use Rattle.joint.specs.declared.FieldCheck.{FieldCheck}
 use Rattle.joint.specs.declared.FieldCheck.the-variants.{AllInRange, Outside}
 
@@ -116,3 +118,17 @@ module _ (joint : Joint) (found : fieldCheck joint ≡ AllInRange) where
           lever = lever;
         };
       }
+
+-- what a range that hangs on another field says where that field is known
+module _ (face : Face) (r : FaceInRange face) where
+  pub row-lever : (row : ℕ) → row < face .rows → row < length (face .levers) → Within (1 to 20000) (getD (face .levers) row 0)
+  row-lever row used h = rw (lt-ltb row (face .rows) used) at (r .lever row h)
+
+  pub spare-lever : (row : ℕ) → face .rows ≤ row → row < length (face .levers) → getD (face .levers) row 0 ≡ 0
+  spare-lever row spare h = let none : Within (0 to 0) (getD (face .levers) row 0) = rw (le-ltb row (face .rows) spare) at (r .lever row h) in omega arith
+
+  pub flush-edge : face .extended ≡ 0 → face .layout .edge ≡ 0
+  flush-edge flush = let none : Within (0 to 0) (face .layout .edge) = rw (eq-eqb (face .extended) 0 flush) at (r .layout .edge) in omega arith
+
+  pub extended-edge : face .extended ≡ 1 → Within (150 to 2000) (face .layout .edge)
+  extended-edge extended = rw (ne-eqb (face .extended) 0 (λ (e : face .extended ≡ 0). omega arith)) at (r .layout .edge)

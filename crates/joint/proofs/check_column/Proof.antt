@@ -1,36 +1,28 @@
+-- `joint::check_column` meets its contract: the answers of its six calls join up to that of the list of fields 8 to 13.
+-- Assumes nothing.
 use borrow.Author.Needs.{needs}
 use Rattle.joint.proofs.Fields.{joined}
 use Rattle.joint.proofs.check_column.Statement.{statement}
 use Rattle.joint.proofs.check_column.Tie as tie
-use Rattle.joint.proofs.check_column.Reads as reads
-use Rattle.joint.proofs.check_column.Lts as lts
-use Rattle.joint.proofs.ranged.Reads as ranged-reads
 
--- src/lib.rt:191:9
 ranged-requires : tie.Need-ranged-requires
 ranged-requires c κs = search needs
 
--- src/lib.rt:192:9
 ranged-requires-2 : tie.Need-ranged-requires-2
 ranged-requires-2 c κs = search needs
 
--- src/lib.rt:193:9
 ranged-requires-3 : tie.Need-ranged-requires-3
 ranged-requires-3 c κs = search needs
 
--- src/lib.rt:194:9
 ranged-requires-4 : tie.Need-ranged-requires-4
 ranged-requires-4 c κs = search needs
 
--- src/lib.rt:195:9
 ranged-requires-5 : tie.Need-ranged-requires-5
 ranged-requires-5 c κs = search needs
 
--- src/lib.rt:196:5
 ranged-requires-6 : tie.Need-ranged-requires-6
 ranged-requires-6 c κs = search needs
 
--- src/lib.rt:188:1
 returns : tie.Need-returns
 returns c = rw (c .ranged6 .ensures, c .before .ranged5 .ensures, c .before .before .ranged4 .ensures, c .before .before .before .ranged3 .ensures, c .before .before .before .before .ranged2 .ensures, c .before .before .before .before .before .ranged .ensures) (simp joined)
 

@@ -1,24 +1,19 @@
+-- `joint::check_grades` meets its contract: the answers of its three calls join up to that of the list of fields 5 to 7.
+-- Assumes nothing.
 use borrow.Author.Needs.{needs}
 use Rattle.joint.proofs.Fields.{joined}
 use Rattle.joint.proofs.check_grades.Statement.{statement}
 use Rattle.joint.proofs.check_grades.Tie as tie
-use Rattle.joint.proofs.check_grades.Reads as reads
-use Rattle.joint.proofs.check_grades.Lts as lts
-use Rattle.joint.proofs.graded.Reads as graded-reads
 
--- src/lib.rt:184:19
 graded-requires : tie.Need-graded-requires
 graded-requires c κs = search needs
 
--- src/lib.rt:184:12
 graded-requires-2 : tie.Need-graded-requires-2
 graded-requires-2 c κs = search needs
 
--- src/lib.rt:184:5
 graded-requires-3 : tie.Need-graded-requires-3
 graded-requires-3 c κs = search needs
 
--- src/lib.rt:181:1
 returns : tie.Need-returns
 returns c = rw (c .graded3 .ensures, c .before .graded2 .ensures, c .before .before .graded .ensures) (simp joined)
 

@@ -1,3 +1,6 @@
+-- `joint::check_levers` meets its contract. The invariant: what was found so far, with the levers that are left, answers what the start
+-- with all of them does.
+-- Assumes nothing.
 use mathlib.Core.Path.{_≡_, refl, sym, ap, _∙_}
 use Prim.Native.Nat.{_+_, _-_, _≤_, _<_}
 use native.Mathlib.Omega.{arith}
@@ -10,10 +13,6 @@ use Rattle.joint.specs.Fields.{after, leverFields}
 use Rattle.joint.proofs.Fields.{next-lever, no-lever}
 use Rattle.joint.proofs.check_levers.Statement.{statement}
 use Rattle.joint.proofs.check_levers.Tie as tie
-use Rattle.joint.proofs.check_levers.Reads as reads
-use Rattle.joint.proofs.check_levers.Lts as lts
-use Rattle.joint.proofs.chosen.Reads as chosen-reads
-use Rattle.joint.proofs.ranged.Reads as ranged-reads
 
 abbrev Inv-loop : tie.InvT-loop
 Inv-loop rows levers kept₀ row₀ kept row = (row ≤ 8) × (after kept (leverFields rows row (drop row levers)) ≡ after kept₀ (leverFields rows 0 levers))
@@ -21,47 +20,36 @@ Inv-loop rows levers kept₀ row₀ kept row = (row ≤ 8) × (after kept (lever
 abbrev μ-loop : tie.MeasureT-loop
 μ-loop rows levers kept₀ row₀ kept row = 8 - row
 
--- src/lib.rt:247:5
 loop-holds : tie.Need-loop-holds Inv-loop μ-loop
 loop-holds c = (lit≤ tt, refl)
 
--- src/lib.rt:249:29
 add-ranged : tie.Need-add-ranged Inv-loop μ-loop
 add-ranged c = omega arith
 
--- src/lib.rt:249:46
 cast-ranged : tie.Need-cast-ranged Inv-loop μ-loop
 cast-ranged c = omega arith
 
--- src/lib.rt:249:39
 mul-ranged : tie.Need-mul-ranged Inv-loop μ-loop
 mul-ranged c = omega arith
 
--- src/lib.rt:249:39
 array-read-ranged : tie.Need-array-read-ranged Inv-loop μ-loop
 array-read-ranged c = omega arith
 
--- src/lib.rt:249:61
 chosen-requires : tie.Need-chosen-requires Inv-loop μ-loop
 chosen-requires c κs = search needs
 
--- src/lib.rt:249:81
 chosen-requires-2 : tie.Need-chosen-requires-2 Inv-loop μ-loop
 chosen-requires-2 c κs = search needs
 
--- src/lib.rt:249:9
 ranged-requires : tie.Need-ranged-requires Inv-loop μ-loop
 ranged-requires c κs = search needs
 
--- src/lib.rt:250:9
 add-row : tie.Need-add-row Inv-loop μ-loop
 add-row c = omega arith
 
--- src/lib.rt:247:5
 loop-less : tie.Need-loop-less Inv-loop μ-loop
 loop-less c = omega arith
 
--- src/lib.rt:247:5
 loop-again : tie.Need-loop-again Inv-loop μ-loop
 loop-again c =
     let at-loop = c .before .before .before .before in
@@ -73,7 +61,6 @@ loop-again c =
           ∙ next-lever (a .rows) (at-loop .loop .row) (a .t3) (at-loop .loop .kept) in-array ∙ at-loop .loop .inv .1,
     )
 
--- src/lib.rt:242:1
 returns : tie.Need-returns Inv-loop μ-loop
 returns c =
     let at-loop = c .before in

@@ -1,3 +1,5 @@
+-- `joint::check_loads` meets its contract: the answers of its three calls join up. The axial force reaches the call as its bits and is read back.
+-- Assumes nothing.
 use borrow.Author.Needs.{needs}
 use Rattle.joint.proofs.Fields.{joined}
 use mathlib.Core.Path.{_≡_}
@@ -5,24 +7,16 @@ use mir.Syntax.{w32}
 use mir.Val.{toZ, ofZ}
 use Rattle.joint.proofs.check_loads.Statement.{statement}
 use Rattle.joint.proofs.check_loads.Tie as tie
-use Rattle.joint.proofs.check_loads.Reads as reads
-use Rattle.joint.proofs.check_loads.Lts as lts
-use Rattle.joint.proofs.keep.Reads as keep-reads
-use Rattle.joint.proofs.ranged.Reads as ranged-reads
 
--- src/lib.rt:236:9
 keep-requires : tie.Need-keep-requires
 keep-requires c κs = search needs
 
--- src/lib.rt:237:9
 ranged-requires : tie.Need-ranged-requires
 ranged-requires c κs = search needs
 
--- src/lib.rt:238:5
 ranged-requires-2 : tie.Need-ranged-requires-2
 ranged-requires-2 c κs = search needs
 
--- src/lib.rt:232:1
 returns : tie.Need-returns
 returns c =
     let force = c .before .before .before .before .args .loads .axial in

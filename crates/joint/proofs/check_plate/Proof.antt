@@ -1,43 +1,33 @@
+-- `joint::check_plate` meets its contract: the answers of its five calls join up, the edge distance's range with its ends chosen apart.
+-- Assumes nothing.
 use borrow.Author.Needs.{needs}
 use Rattle.joint.proofs.Fields.{joined}
 use lib.Dec.{eqb}
 use Rattle.arithmetic.proofs.Bounds.{within-either}
 use Rattle.joint.proofs.check_plate.Statement.{statement}
 use Rattle.joint.proofs.check_plate.Tie as tie
-use Rattle.joint.proofs.check_plate.Reads as reads
-use Rattle.joint.proofs.check_plate.Lts as lts
-use Rattle.joint.proofs.chosen.Reads as chosen-reads
-use Rattle.joint.proofs.ranged.Reads as ranged-reads
 
--- src/lib.rt:213:9
 ranged-requires : tie.Need-ranged-requires
 ranged-requires c κs = search needs
 
--- src/lib.rt:214:9
 ranged-requires-2 : tie.Need-ranged-requires-2
 ranged-requires-2 c κs = search needs
 
--- src/lib.rt:215:9
 ranged-requires-3 : tie.Need-ranged-requires-3
 ranged-requires-3 c κs = search needs
 
--- src/lib.rt:217:47
 chosen-requires : tie.Need-chosen-requires
 chosen-requires c κs = search needs
 
--- src/lib.rt:217:70
 chosen-requires-2 : tie.Need-chosen-requires-2
 chosen-requires-2 c κs = search needs
 
--- src/lib.rt:217:9
 ranged-requires-4 : tie.Need-ranged-requires-4
 ranged-requires-4 c κs = search needs
 
--- src/lib.rt:218:5
 ranged-requires-5 : tie.Need-ranged-requires-5
 ranged-requires-5 c κs = search needs
 
--- src/lib.rt:210:1
 returns : tie.Need-returns
 returns c =
     let at-start = c .before .before .before .before .before .before .before in

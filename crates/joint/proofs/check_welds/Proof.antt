@@ -1,28 +1,22 @@
+-- `joint::check_welds` meets its contract: the answers of its four calls join up to that of the list of fields 23 to 26.
+-- Assumes nothing.
 use borrow.Author.Needs.{needs}
 use Rattle.joint.proofs.Fields.{joined}
 use Rattle.joint.proofs.check_welds.Statement.{statement}
 use Rattle.joint.proofs.check_welds.Tie as tie
-use Rattle.joint.proofs.check_welds.Reads as reads
-use Rattle.joint.proofs.check_welds.Lts as lts
-use Rattle.joint.proofs.ranged.Reads as ranged-reads
 
--- src/lib.rt:225:9
 ranged-requires : tie.Need-ranged-requires
 ranged-requires c κs = search needs
 
--- src/lib.rt:226:9
 ranged-requires-2 : tie.Need-ranged-requires-2
 ranged-requires-2 c κs = search needs
 
--- src/lib.rt:227:9
 ranged-requires-3 : tie.Need-ranged-requires-3
 ranged-requires-3 c κs = search needs
 
--- src/lib.rt:228:5
 ranged-requires-4 : tie.Need-ranged-requires-4
 ranged-requires-4 c κs = search needs
 
--- src/lib.rt:222:1
 returns : tie.Need-returns
 returns c = rw (c .ranged4 .ensures, c .before .ranged3 .ensures, c .before .before .ranged2 .ensures, c .before .before .before .ranged .ensures) (simp joined)
 

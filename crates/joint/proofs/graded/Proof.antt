@@ -1,16 +1,13 @@
+-- `joint::graded` meets its contract: its test is that of the list of grades.
+-- Assumes nothing.
 use borrow.Author.Needs.{needs}
 use mathlib.Core.Bool.{or-false}
 use Rattle.joint.proofs.graded.Statement.{statement}
 use Rattle.joint.proofs.graded.Tie as tie
-use Rattle.joint.proofs.graded.Reads as reads
-use Rattle.joint.proofs.graded.Lts as lts
-use Rattle.joint.proofs.keep.Reads as keep-reads
 
--- src/lib.rt:165:5
 keep-requires : tie.Need-keep-requires
 keep-requires c κs = search needs
 
--- src/lib.rt:162:1
 returns : tie.Need-returns
 returns c = rw (c .keep .ensures) (simp or-false)
 

@@ -1,31 +1,24 @@
+-- `strength::bolt_strengths` meets its contract: the figures are the tables', and the greatest area and tension bound the product.
+-- Assumes nothing.
 use borrow.Author.Needs.{needs}
 use Rattle.arithmetic.proofs.Bounds.{exactly, _⊗_, fits}
 use Rattle.strength.specs.Bolt.{pairTension}
 use Rattle.strength.proofs.Ranges.{area-most, tension-most}
 use Rattle.strength.proofs.bolt_strengths.Statement.{statement}
 use Rattle.strength.proofs.bolt_strengths.Tie as tie
-use Rattle.strength.proofs.bolt_strengths.Reads as reads
-use Rattle.strength.proofs.bolt_strengths.Lts as lts
-use Rattle.strength.proofs.bolt_area.Reads as bolt-area-reads
-use Rattle.strength.proofs.class_strengths.Reads as class-strengths-reads
 
--- src/lib.rt:97:9
 bolt-area-requires : tie.Need-bolt-area-requires
 bolt-area-requires c κs = search needs
 
--- src/lib.rt:98:9
 class-strengths-requires : tie.Need-class-strengths-requires
 class-strengths-requires c κs = search needs
 
--- src/lib.rt:101:15
 mul-t4 : tie.Need-mul-t4
 mul-t4 c = rw (c .before .bolt-area .ensures) (fits (exactly 2 ⊗ area-most _) tt)
 
--- src/lib.rt:101:15
 mul-t5 : tie.Need-mul-t5
 mul-t5 c = rw (c .before .before .bolt-area .ensures, c .before .class-strengths .ensures) (fits (exactly 2 ⊗ area-most _ ⊗ tension-most _) tt)
 
--- src/lib.rt:94:1
 returns : tie.Need-returns
 unfolding pairTension
 returns c = rw (c .before .before .bolt-area .ensures, c .before .class-strengths .ensures)

@@ -1,23 +1,18 @@
+-- `strength::steel_strengths` meets its contract, field by field.
+-- Assumes nothing.
 use borrow.Author.Needs.{needs}
 use Rattle.strength.proofs.steel_strengths.Statement.{statement}
 use Rattle.strength.proofs.steel_strengths.Tie as tie
-use Rattle.strength.proofs.steel_strengths.Reads as reads
-use Rattle.strength.proofs.steel_strengths.Lts as lts
-use Rattle.strength.proofs.steel_strength.Reads as steel-strength-reads
 
--- src/lib.rt:43:17
 steel-strength-requires : tie.Need-steel-strength-requires
 steel-strength-requires c κs = search needs
 
--- src/lib.rt:44:15
 steel-strength-requires-2 : tie.Need-steel-strength-requires-2
 steel-strength-requires-2 c κs = search needs
 
--- src/lib.rt:45:16
 steel-strength-requires-3 : tie.Need-steel-strength-requires-3
 steel-strength-requires-3 c κs = search needs
 
--- src/lib.rt:39:1
 returns : tie.Need-returns
 returns c =
     let of-plate = c .steel-strength3 .ensures in

@@ -1,0 +1,68 @@
+-- Web buckling is the greatest w with 16×dc×w² at most its limit, and the only such number; the integer root of the limit over 16×dc is
+-- that number. Assumes nothing.
+use mathlib.Core.Path.{_≡_, refl, sym, ap, _∙_}
+use mathlib.Core.Bool.{Bool, true, false, cond}
+use Prim.Native.Nat.{ℕ, _*_, _/_, _^_, _≤_, zero-le}
+use native.Mathlib.Nat.{mul-zero, mul-assoc, one-mul, pow-suc, pow-zero, mul-le-mul, mul-le-mul-left}
+use native.Mathlib.Omega.{arith}
+use lib.Dec.{eqb}
+use lib.Pow.{pow-add}
+use borrow.Author.Tests.{eqb-true}
+use Rattle.arithmetic.specs.Range.{Within, _to_}
+use Rattle.arithmetic.specs.Greatest.{search-from}
+use Rattle.arithmetic.proofs.Bounds.{exactly, _⊗_}
+use Rattle.arithmetic.proofs.Greatest.{only-one, is-greatest, unscaled}
+use Rattle.joint.specs.InRange.{ColumnInRange}
+use Rattle.joint.specs.declared.Column.{Column}
+use Rattle.compression.specs.Root.{squareRoot, rootCase, rootOf}
+use Rattle.compression.specs.declared.root.Root.{Root}
+use Rattle.compression.specs.declared.root.Root.the-variants.{Zero, Positive}
+use Rattle.compression.specs.Compression.{IsWebBuckling, bucklingLimit, webBuckling}
+
+square : (t : ℕ) → t ^ 2 ≡ t * t
+square t = pow-suc t 1 ∙ ap (λ (s : ℕ). s * t) (pow-suc t 0 ∙ ap (λ (s : ℕ). s * t) (pow-zero t) ∙ one-mul t)
+
+-- the fourth power as the code works it
+fourth : (a t : ℕ) → a * (t * t) * (t * t) ≡ a * t ^ 4
+fourth a t = mul-assoc a (t * t) (t * t) ∙ ap (λ (s : ℕ). a * s) (sym (pow-add t 2 2 ∙ rw (square t)))
+
+root-of-zero : squareRoot 0 ≡ 0
+unfolding squareRoot search-from
+root-of-zero = refl
+
+-- the root of a case is the root
+case-root : (x : ℕ) → rootOf (rootCase x) ≡ squareRoot x
+unfolding rootCase
+case-root x = either (eqb x 0) refl
+  where
+    either : (zero : Bool) → eqb x 0 ≡ zero → rootOf (cond zero Zero (Positive (squareRoot x))) ≡ squareRoot x
+    either true e = sym (ap squareRoot (eqb-true x 0 e) ∙ root-of-zero)
+    either false e = refl
+
+module _ (b yc : ℕ) (column : Column) (length : Within (420 to 6500) b) (strength : Within (255 to 355) yc) (r : ColumnInRange column) where
+  -- the root of the limit over 16×dc, as the code works it
+  pub buckling-root : (found : Root) → found ≡ rootCase (275 * b * yc * (column .web * column .web) * (column .web * column .web) / (16 * column .clear)) →
+      rootOf found ≡ webBuckling b yc column
+  unfolding squareRoot webBuckling bucklingLimit
+  buckling-root found e =
+      ap rootOf e ∙ case-root _
+      ∙ ap (λ (limit : ℕ). squareRoot (limit / (16 * column .clear))) (fourth (275 * b * yc) (column .web))
+      ∙ unscaled 32 (λ (w : ℕ). w * w) (bucklingLimit b yc column) (16 * column .clear) (omega (arith, r .clear .low))
+
+  limit-range : Within (23856525000000 to 16244800000000000000) (bucklingLimit b yc column)
+  unfolding bucklingLimit
+  limit-range =
+      let squared = r .web ⊗ r .web in
+      rw (fourth (275 * b * yc) (column .web)) at (exactly 275 ⊗ length ⊗ strength ⊗ squared ⊗ squared)
+
+  pub buckling-greatest : IsWebBuckling b yc column (webBuckling b yc column)
+  unfolding webBuckling
+  buckling-greatest =
+      is-greatest (λ (w : ℕ). 16 * column .clear * (w * w)) (bucklingLimit b yc column) 32
+      (λ v w h. mul-le-mul-left (16 * column .clear) (mul-le-mul h h)) (rw mul-zero zero-le) (omega (arith, limit-range .high, r .clear .low))
+
+  pub buckling-only : (w : ℕ) → IsWebBuckling b yc column w → w ≡ webBuckling b yc column
+  buckling-only w h = only-one h buckling-greatest
+
+  pub buckling-least : 10319 ≤ webBuckling b yc column
+  buckling-least = buckling-greatest .greatest 10319 (omega (arith, limit-range .low, r .clear .high))

@@ -1,0 +1,2 @@
+pub mod Buckling
+pub mod Least

@@ -1,0 +1,26 @@
+-- `compression::root::first_guess` meets its contract: the stored guess for x's length is safe, by the test over the table.
+-- Assumes nothing.
+use borrow.Author.Needs.{needs}
+use Rattle.compression.proofs.root.Guesses.{guesses, stored}
+use Rattle.compression.proofs.root.first_guess.Statement.{statement}
+use Rattle.compression.proofs.root.first_guess.Tie as tie
+
+bit-length-requires : tie.Need-bit-length-requires
+bit-length-requires c κs = search needs
+
+sub-result : tie.Need-sub-result
+sub-result c = search needs
+
+mul-result : tie.Need-mul-result
+mul-result c = search needs
+
+array-read-result : tie.Need-array-read-result
+array-read-result c = search needs
+
+returns : tie.Need-returns
+unfolding guesses
+returns c = stored (c .before .args .x) (c .bit-length .result) (c .bit-length .ensures)
+
+pub first-guess-spec : {M : Type 1} → statement M
+first-guess-spec =
+    tie.close (tie.spec bit-length-requires sub-result mul-result array-read-result returns)
