@@ -7,6 +7,7 @@ ghost use mathlib.Core.List.{[], _∷_};
 ghost use Rattle.arithmetic.specs.Range.{within, _to_};
 ghost use Rattle.arithmetic.specs.Table.{oneOf};
 ghost use Rattle.joint.specs.Ranges.{grades};
+ghost use Rattle.joint.specs.Axial.{axialForce};
 ghost use Rattle.joint.specs.Fields.{fieldCheck, firstOutside, after, headFields, gradeFields, columnFields, beamFields, plateFields, weldFields, loadFields, leverFields};
 
 // Fields 5 and 8 to 13.
@@ -110,6 +111,23 @@ pub struct Joint {
     pub column: Column,
     pub bolts: Bolts,
     pub face: Face,
+}
+
+// The axial force N by its sign, with its size in newtons.
+pub enum AxialForce {
+    Compression(u32),
+    Tension(u32),
+}
+
+// -1 - axial is not below 0 where axial is, and can't wrap.
+pub fn axial_force(axial: i32) -> AxialForce
+    ensures { λ r. ⌜ r ≡ axialForce axial ⌝ }
+{
+    if axial < 0 {
+        AxialForce::Tension(((-1 - axial) as u32) + 1)
+    } else {
+        AxialForce::Compression(axial as u32)
+    }
 }
 
 // What checking a joint's fields finds: document 01's refusal 10 is `Outside`, with the first such field's number.

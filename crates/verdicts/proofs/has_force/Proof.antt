@@ -1,0 +1,14 @@
+-- `has_force` meets its contract, by its one test. Assumes nothing.
+use mathlib.Core.Path.{_≡_, refl, sym, ap, _∙_}
+use borrow.Author.Tests.{eq-eqb, ne-eqb}
+use Rattle.verdicts.proofs.has_force.Statement.{statement}
+use Rattle.verdicts.proofs.has_force.Tie as tie
+
+returns : tie.Need-returns
+returns c = simp (eq-eqb _ _ (c .if1 .taken))
+
+returns-2 : tie.Need-returns-2
+returns-2 c = simp (ne-eqb _ _ (c .if1 .left))
+
+pub has-force-spec : {M : Type 1} → statement M
+has-force-spec = tie.close (tie.spec returns returns-2)

@@ -1,0 +1,17 @@
+-- `pair_bearing` meets its contract: the products fit. Assumes nothing.
+use Rattle.arithmetic.proofs.Bounds.{exactly, _⊗_, _⊕_, _⊘_, fits}
+use borrow.Author.Needs.{needs}
+use Rattle.verdicts.proofs.pair_bearing.Statement.{statement}
+use Rattle.verdicts.proofs.pair_bearing.Tie as tie
+
+mul-result : tie.Need-mul-result
+mul-result c = fits (c .pre .0 ⊗ c .pre .1) tt
+
+mul-result-2 : tie.Need-mul-result-2
+mul-result-2 c = fits (c .pre .0 ⊗ c .pre .1 ⊗ c .pre .2) tt
+
+returns : tie.Need-returns
+returns c = search needs
+
+pub pair-bearing-spec : {M : Type 1} → statement M
+pair-bearing-spec = tie.close (tie.spec mul-result mul-result-2 returns)

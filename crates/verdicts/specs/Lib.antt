@@ -1,0 +1,4 @@
+pub mod Bending
+pub mod Bolts
+pub mod Welds
+pub mod Tally

@@ -1,0 +1,188 @@
+// Verdicts on a joint's row forces: bending, bolts, flange weld and web weld (document 01, 'Verdicts').
+// Work calls these for joints whose fields are in range.
+ghost use mathlib.Core.Path.{_≡_};
+ghost use Prim.Native.Nat.{ℕ, _+_, _*_, _/_, _≤_, _<_, min};
+ghost use mathlib.Core.Bool.{cond};
+ghost use lib.Dec.{eqb, leb};
+ghost use lib.ListN.{length, getD, take};
+ghost use Rattle.arithmetic.specs.Range.{Within, _to_};
+ghost use Rattle.joint.specs.InRange.{BoltsInRange, ColumnInRange, BeamInRange, PlateInRange, LoadsInRange, FaceInRange};
+ghost use Rattle.strength.specs.Bolt.{boltStrengths, boltBearing};
+ghost use Rattle.strength.specs.Steel.{steelStrength, weldStrength};
+ghost use Rattle.strength.specs.InRange.{BoltInRange};
+ghost use Rattle.verdicts.specs.Bending.{carries};
+ghost use Rattle.verdicts.specs.Bolts.{pairBearing, bearing, idlePair, pullingPair};
+ghost use Rattle.verdicts.specs.Welds.{flangeWeldBy, webWeldPasses, topRows};
+ghost use Rattle.verdicts.specs.Tally.{tallyOf};
+use joint::AxialForce;
+use joint::Beam;
+use joint::Bolts;
+use joint::Column;
+use joint::Face;
+use joint::Loads;
+use joint::Plate;
+use strength::BoltStrengths;
+
+// What row forces come to.
+pub struct Tally {
+    // newtons
+    pub sum: u64,
+    // Z, newtons times tenths of a millimetre
+    pub moment: u64,
+    // rows with a force
+    pub pulling: u64,
+}
+
+pub fn tally_forces(rows: usize, levers: [u32; 8], forces: [u64; 8]) -> Tally
+    requires { ⌜ (rows ≤ 8) × ((k : ℕ) → getD levers k 0 ≤ 20000) × ((k : ℕ) → getD forces k 0 ≤ 4000000000) ⌝ }
+    ensures { λ r. ⌜ r ≡ tallyOf (take rows levers) (take rows forces) ⌝ }
+{
+    let mut sum = 0;
+    let mut moment = 0;
+    let mut pulling = 0;
+    let mut row = 0;
+    while row < rows {
+        let force = forces[row];
+        sum += force;
+        moment += force * (levers[row] as u64);
+        pulling += has_force(force);
+        row += 1;
+    }
+    Tally {
+        sum,
+        moment,
+        pulling,
+    }
+}
+
+fn has_force(force: u64) -> u64
+    ensures { λ r. ⌜ r ≡ cond (eqb force 0) 0 1 ⌝ }
+{
+    if force == 0 { 0 } else { 1 }
+}
+
+// Bending: what is asked of the moment is moved to the side where it isn't below 0.
+pub fn carries_moment(loads: Loads, beam: Beam, moment: u64) -> bool
+    requires { ⌜ LoadsInRange loads × BeamInRange beam × (moment ≤ 1000000000000000) ⌝ }
+    ensures { λ r. ⌜ r ≡ carries loads beam moment ⌝ }
+{
+    let arm = (beam.depth - beam.flange) as u64;
+    let asked = 20000 * (loads.moment as u64);
+    let axial = joint::axial_force(loads.axial);
+    match axial {
+        AxialForce::Compression(n) => asked <= 2 * moment + (n as u64) * arm,
+        AxialForce::Tension(n) => asked + (n as u64) * arm <= 2 * moment,
+    }
+}
+
+// A pair of bolts bearing on a plate or a flange.
+fn pair_bearing(diameter: u32, thickness: u32, strength: u64) -> u64
+    requires { ⌜ Within (12 to 30) diameter × Within (0 to 500) thickness × Within (0 to 1300) strength ⌝ }
+    ensures { λ r. ⌜ r ≡ diameter * thickness * strength / 5 ⌝ }
+{
+    (diameter as u64) * (thickness as u64) * strength / 5
+}
+
+// The lesser bearing of a pair, on the plate and on the column flange.
+fn bearing_of(bolts: Bolts, strength: u64, column: Column, plate: Plate) -> u64
+    requires { ⌜ BoltsInRange bolts × ColumnInRange column × PlateInRange plate × (strength ≡ boltBearing (bolts .class)) ⌝ }
+    ensures { λ r. ⌜ r ≡ bearing bolts column plate ⌝ }
+{
+    let on_plate = least(strength, strength::steel_bearing(plate.grade));
+    let on_column = least(strength, strength::steel_bearing(column.grade));
+    least(
+        pair_bearing(bolts.diameter, plate.thickness, on_plate),
+        pair_bearing(bolts.diameter, column.flange, on_column),
+    )
+}
+
+// S, the shear of a pair.
+fn pair_shear(bolt: BoltStrengths) -> u64
+    requires { ⌜ BoltInRange bolt ⌝ }
+    ensures { λ r. ⌜ r ≡ 2 * bolt .area * bolt .shear / 10 ⌝ }
+{
+    2 * bolt.area * bolt.shear / 10
+}
+
+// What pairs in rows with a force and pairs in rows without one count together.
+fn pairs_total(pulling: u64, idle: u64, shear: u64, bearing: u64) -> u64
+    requires { ⌜ Within (0 to 8) pulling × Within (0 to 16) idle × Within (0 to 448800) shear ⌝ }
+    ensures { λ r. ⌜ r ≡ pulling * min (2 * shear / 5) bearing + idle * min shear bearing ⌝ }
+{
+    pulling * least(2 * shear / 5, bearing) + idle * least(shear, bearing)
+}
+
+// Bolts: rows with a force, and rows without one, shear rows among them.
+pub fn bolts_carry(
+    bolts: Bolts,
+    bolt: BoltStrengths,
+    column: Column,
+    plate: Plate,
+    pulling: u64,
+    idle: u64,
+    shear: u32,
+) -> bool
+    requires { ⌜ BoltsInRange bolts × ColumnInRange column × PlateInRange plate ⌝ }
+    requires { ⌜ (bolt ≡ boltStrengths bolts) × Within (0 to 8) pulling × Within (0 to 16) idle ⌝ }
+    ensures { λ r. ⌜ r ≡ leb shear (pulling * pullingPair bolts column plate + idle * idlePair bolts column plate) ⌝ }
+{
+    let bearing = bearing_of(bolts, bolt.bearing, column, plate);
+    (shear as u64) <= pairs_total(pulling, idle, pair_shear(bolt), bearing)
+}
+
+// The sum of the first three rows, two if flush; places past the last row are 0.
+pub fn top_rows(extended: u32, forces: [u64; 8]) -> u64
+    requires { ⌜ ((k : ℕ) → getD forces k 0 ≤ 4000000000) ⌝ }
+    ensures { λ r. ⌜ r ≡ topRows extended forces ⌝ }
+{
+    let two = forces[0] + forces[1];
+    if extended == 0 {
+        two
+    } else {
+        two + forces[2]
+    }
+}
+
+// What a weld of a leg and a length carries.
+fn weld_capacity(leg: u32, length: u32, strength: u64) -> u64
+    requires { ⌜ Within (0 to 250) leg × Within (0 to 15000) length × Within (220 to 250) strength ⌝ }
+    ensures { λ r. ⌜ r ≡ 14 * leg * length * strength / 1000 ⌝ }
+{
+    14 * (leg as u64) * (length as u64) * strength / 1000
+}
+
+// Flange weld, from yb, pw and the sum of the top rows.
+pub fn flange_weld(face: Face, beam_strength: u64, weld_strength: u64, top: u64) -> bool
+    requires { ⌜ FaceInRange face × («beam_strength» ≡ steelStrength (face .beam .grade) (face .beam .flange)) × («weld_strength» ≡ weldStrength (face .beam .grade) (face .plate .grade)) ⌝ }
+    ensures { λ r. ⌜ r ≡ flangeWeldBy face top ⌝ }
+{
+    let beam = face.beam;
+    let leg = face.welds.flange;
+    if 10 * beam.flange <= 14 * leg {
+        return true;
+    }
+    let flange = flange_capacity(beam_strength, beam);
+    least(flange, top) <= weld_capacity(leg, beam.width, weld_strength)
+}
+
+// What the beam's tension flange carries.
+fn flange_capacity(strength: u64, beam: Beam) -> u64
+    requires { ⌜ Within (255 to 355) strength × BeamInRange beam ⌝ }
+    ensures { λ r. ⌜ r ≡ strength * beam .flange * beam .width / 100 ⌝ }
+{
+    strength * (beam.flange as u64) * (beam.width as u64) / 100
+}
+
+// Web weld, from pw.
+pub fn web_weld(face: Face, weld_strength: u64) -> bool
+    requires { ⌜ FaceInRange face × («weld_strength» ≡ weldStrength (face .beam .grade) (face .plate .grade)) ⌝ }
+    ensures { λ r. ⌜ r ≡ webWeldPasses face ⌝ }
+{
+    (face.loads.shear as u64) <= weld_capacity(face.welds.web, face.welds.length, weld_strength)
+}
+
+fn least(a: u64, b: u64) -> u64
+    ensures { λ r. ⌜ r ≡ min a b ⌝ }
+{
+    if a < b { a } else { b }
+}
