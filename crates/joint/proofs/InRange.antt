@@ -107,7 +107,7 @@ module _ (joint : Joint) (found : fieldCheck joint ≡ AllInRange) where
           welds = record {
             flange = within-yes legs (welds .flange) (field 23);
             web = within-yes legs (welds .web) (field 24);
-            length = within-yes weldLengths (welds .length) (field 25);
+            web-length = within-yes weldLengths (welds .length) (field 25);
           };
           shear-rows = within-yes shearRowCounts (face .«shear_rows») (field 26);
           loads = record {

@@ -51,7 +51,7 @@ pub record LayoutInRange (extended : ℕ) (layout : Layout) : Type 0 where
 pub record WeldsInRange (welds : Welds) : Type 0 where
   pub flange : Within legs (welds .flange)
   pub web : Within legs (welds .web)
-  pub length : Within weldLengths (welds .length)
+  pub web-length : Within weldLengths (welds .length)
 
 pub record LoadsInRange (forces : Loads) : Type 0 where
   pub axial : Within loads (natAbs (forces .axial))
