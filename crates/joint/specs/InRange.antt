@@ -1,7 +1,6 @@
 -- A joint whose fields are all in document 01's ranges, part by part and by name: what every crate above requires of it.
 -- Assumes nothing.
-use Prim.Native.Nat.{ℕ, _≤_, _<_}
-use mathlib.Core.Path.{_≡_}
+use Prim.Native.Nat.{ℕ, _<_}
 use lib.Dec.{T}
 use lib.IntN.{natAbs}
 use lib.ListN.{length, getD}
