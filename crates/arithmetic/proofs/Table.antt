@@ -1,6 +1,6 @@
 -- A rule of a table, shown by one test that antt computes over all entries and carried to each: by its place in a list, or by its key.
 -- Assumes nothing.
-use mathlib.Core.Path.{_≡_, _∙_, subst, sym}
+use mathlib.Core.Path.{_∙_, subst, sym}
 use mathlib.Core.Logic.{⊎-elim}
 use mathlib.Core.Bool.{Bool, true, false, cond, _&&_, _||_}
 use mathlib.Core.List.{List, [], _∷_}

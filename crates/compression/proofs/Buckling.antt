@@ -59,7 +59,7 @@ module _ (b yc : ℕ) (column : Column) (length : Within (420 to 6500) b) (stren
   unfolding webBuckling
   buckling-greatest =
       is-greatest (λ (w : ℕ). 16 * column .clear * (w * w)) (bucklingLimit b yc column) 32
-      (λ v w h. mul-le-mul-left (16 * column .clear) (mul-le-mul h h)) (rw mul-zero zero-le) (omega (arith, limit-range .high, r .clear .low))
+      (λ v w h. mul-le-mul-left (16 * column .clear) (mul-le-mul h h)) (rw (mul-zero (16 * column .clear)) zero-le) (omega (arith, limit-range .high, r .clear .low))
 
   pub buckling-only : (w : ℕ) → IsWebBuckling b yc column w → w ≡ webBuckling b yc column
   buckling-only w h = only-one h buckling-greatest

@@ -1,6 +1,6 @@
 // The integer square root of any u64, by Newton's steps from a stored first guess.
 ghost use mathlib.Core.Path.{_≡_};
-ghost use Prim.Native.Nat.{_+_, _*_, _^_, _<_};
+ghost use Prim.Native.Nat.{_<_};
 ghost use Rattle.compression.specs.Root.{rootCase, BitLength, Guess};
 
 // The root of 0, which has no length in bits and so no first guess, is a case of its own.

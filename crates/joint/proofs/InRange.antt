@@ -1,8 +1,8 @@
 -- Where the check finds nothing, each of a joint's fields is in its range: every test of the list has passed, and each named range is
 -- read off at its field's number. Assumes nothing.
-use mathlib.Core.Path.{_≡_, refl, sym, ap, subst, _∙_}
+use mathlib.Core.Path.{_≡_, sym, ap, subst, _∙_}
 use mathlib.Core.Bool.{Bool, true, false, cond}
-use mathlib.Core.List.{List, [], _∷_, _++_}
+use mathlib.Core.List.{List, [], _∷_}
 use Prim.Native.Nat.{ℕ, zero, suc, _+_, _-_, _≤_, _<_, zero-le}
 use native.Mathlib.Nat.{add-zero, add-suc, suc-add, zero-add, le-of-suc-le-suc, not-suc-le-zero}
 use native.Mathlib.Omega.{arith}
@@ -107,7 +107,7 @@ module _ (joint : Joint) (found : fieldCheck joint ≡ AllInRange) where
           welds = record {
             flange = within-yes legs (welds .flange) (field 23);
             web = within-yes legs (welds .web) (field 24);
-            length = within-yes weldLengths (welds .length) (field 25);
+            web-length = within-yes weldLengths (welds .length) (field 25);
           };
           shear-rows = within-yes shearRowCounts (face .«shear_rows») (field 26);
           loads = record {

@@ -1,7 +1,6 @@
 -- A joint whose fields are all in document 01's ranges, part by part and by name: what every crate above requires of it.
 -- Assumes nothing.
-use Prim.Native.Nat.{ℕ, _≤_, _<_}
-use mathlib.Core.Path.{_≡_}
+use Prim.Native.Nat.{ℕ, _<_}
 use lib.Dec.{T}
 use lib.IntN.{natAbs}
 use lib.ListN.{length, getD}
@@ -51,7 +50,7 @@ pub record LayoutInRange (extended : ℕ) (layout : Layout) : Type 0 where
 pub record WeldsInRange (welds : Welds) : Type 0 where
   pub flange : Within legs (welds .flange)
   pub web : Within legs (welds .web)
-  pub length : Within weldLengths (welds .length)
+  pub web-length : Within weldLengths (welds .length)
 
 pub record LoadsInRange (forces : Loads) : Type 0 where
   pub axial : Within loads (natAbs (forces .axial))

@@ -1,8 +1,7 @@
 // A joint: a beam on a column flange through an end plate. The fields are grouped by what a second beam on the other
 // face would share. Each comment gives document 01's field number and unit; lengths are in tenths of a millimetre.
 ghost use mathlib.Core.Path.{_≡_};
-ghost use Prim.Native.Nat.{_+_};
-ghost use mathlib.Core.Bool.{cond, _&&_};
+ghost use mathlib.Core.Bool.{cond};
 ghost use mathlib.Core.List.{[], _∷_};
 ghost use Rattle.arithmetic.specs.Range.{within, _to_};
 ghost use Rattle.arithmetic.specs.Table.{oneOf};

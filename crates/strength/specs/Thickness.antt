@@ -1,11 +1,21 @@
--- Document 01, Work's refusal 14: 361×Tc²×yc and 361×tp²×yp both above 10000×δ²×U. The rule for one thickness, and what it is held against.
+-- Document 01, Work's refusal 14: 361×Tc²×yc and 361×tp²×yp both above 10000×δ²×U.
 -- Assumes nothing.
 use Prim.Native.Nat.{ℕ, _*_}
-use mathlib.Core.Bool.{Bool}
+use mathlib.Core.Bool.{Bool, _&&_}
 use lib.Dec.{ltb}
+use Rattle.joint.specs.declared.Column.{Column}
+use Rattle.joint.specs.declared.Plate.{Plate}
+use Rattle.joint.specs.declared.Bolts.{Bolts}
+use Rattle.strength.specs.declared.SteelStrengths.{SteelStrengths}
+use Rattle.strength.specs.declared.BoltStrengths.{BoltStrengths}
 
 unfoldable pub thicknessLimit : (diameter ultimate : ℕ) → ℕ
 thicknessLimit diameter ultimate = 10000 * diameter * diameter * ultimate
 
 unfoldable pub tooThick : (thickness strength limit : ℕ) → Bool
 tooThick thickness strength limit = ltb limit (361 * thickness * thickness * strength)
+
+unfoldable pub bothTooThick : Column → Plate → Bolts → SteelStrengths → BoltStrengths → Bool
+bothTooThick column plate bolts steel bolt =
+    let limit = thicknessLimit (bolts .diameter) (bolt .ultimate) in
+    tooThick (column .flange) (steel .column) limit && tooThick (plate .thickness) (steel .plate) limit

@@ -1,12 +1,14 @@
-// Strengths of BS 5950-1:2000 in newtons per square millimetre: steel, bolts and welds. Every function takes any numbers: what is in
-// none of document 01's tables has strength 0. The crates above call these for joints whose fields are in range.
+// Strengths of BS 5950-1:2000 in newtons per square millimetre: steel, bolts and welds. Each takes any numbers: what is in none of
+// document 01's tables has strength 0.
 ghost use mathlib.Core.Path.{_≡_};
 ghost use mathlib.Core.List.{[], _∷_};
 ghost use Prim.Native.Nat.{_≤_};
 ghost use Rattle.arithmetic.specs.Table.{upTo};
 ghost use Rattle.strength.specs.Steel.{steelStrength, steelStrengths, steelBearing, weldStrength, bands};
 ghost use Rattle.strength.specs.Bolt.{boltArea, classStrengths, boltStrengths};
-ghost use Rattle.strength.specs.Thickness.{thicknessLimit, tooThick};
+ghost use Rattle.strength.specs.Thickness.{thicknessLimit, tooThick, bothTooThick};
+ghost use Rattle.strength.specs.InRange.{SteelInRange, BoltInRange};
+ghost use Rattle.joint.specs.InRange.{ColumnInRange, PlateInRange, BoltsInRange};
 use joint::Beam;
 use joint::Bolts;
 use joint::Column;
@@ -47,7 +49,7 @@ pub fn steel_strengths(column: Column, beam: Beam, plate: Plate) -> SteelStrengt
 }
 
 // Table 9, thickness in tenths of a millimetre.
-pub fn steel_strength(grade: u32, thickness: u32) -> u64
+fn steel_strength(grade: u32, thickness: u32) -> u64
     ensures { λ r. ⌜ r ≡ steelStrength grade thickness ⌝ }
 {
     match grade {
@@ -140,8 +142,22 @@ fn class_of(tension: u64, shear: u64, bearing: u64, ultimate: u64) -> ClassStren
     }
 }
 
-// 10000×δ²×U of refusal 14, which a flange and a plate are both held against. Work calls it for fields in range.
-pub fn thickness_limit(diameter: u32, ultimate: u64) -> u64
+// Refusal 14: flange and plate both too thick for the bolts. Work calls it for a joint whose fields are in range.
+pub fn both_too_thick(
+    column: Column,
+    plate: Plate,
+    bolts: Bolts,
+    steel: SteelStrengths,
+    bolt: BoltStrengths,
+) -> bool
+    requires { ⌜ ColumnInRange column × PlateInRange plate × BoltsInRange bolts × SteelInRange steel × BoltInRange bolt ⌝ }
+    ensures { λ r. ⌜ r ≡ bothTooThick column plate bolts steel bolt ⌝ }
+{
+    let limit = thickness_limit(bolts.diameter, bolt.ultimate);
+    too_thick(column.flange, steel.column, limit) & too_thick(plate.thickness, steel.plate, limit)
+}
+
+fn thickness_limit(diameter: u32, ultimate: u64) -> u64
     requires { ⌜ (diameter ≤ 30) × (ultimate ≤ 1000) ⌝ }
     ensures { λ r. ⌜ r ≡ thicknessLimit diameter ultimate ⌝ }
 {
@@ -149,8 +165,7 @@ pub fn thickness_limit(diameter: u32, ultimate: u64) -> u64
     10000 * d * d * ultimate
 }
 
-// Refusal 14's rule for one of the two. Work calls it for fields in range.
-pub fn too_thick(thickness: u32, strength: u64, limit: u64) -> bool
+fn too_thick(thickness: u32, strength: u64, limit: u64) -> bool
     requires { ⌜ (thickness ≤ 500) × (strength ≤ 355) ⌝ }
     ensures { λ r. ⌜ r ≡ tooThick thickness strength limit ⌝ }
 {

@@ -1,8 +1,8 @@
 -- Newton's steps for a square root, on plain numbers: a step from any guess gives one that isn't below the root, since the mean of two
 -- numbers isn't below the root of their product; and a number between the two bounds is the root. Assumes nothing.
-use mathlib.Core.Path.{_≡_, sym, ap, _∙_}
+use mathlib.Core.Path.{_≡_}
 use Prim.Native.Nat.{ℕ, zero, suc, _+_, _*_, _/_, _^_, _≤_, _<_, zero-le}
-use native.Mathlib.Nat.{le-trans, le-of-eq, le-of-lt, lt-of-lt-of-le, lt-of-not-le, lt-suc-self, le-dest, add-comm, mul-comm, mul-add, add-mul, mul-le-mul, mul-le-mul-left, mul-le-mul-right, div-lt-iff-lt-mul, le-div-iff-mul-le}
+use native.Mathlib.Nat.{lt-of-lt-of-le, lt-of-not-le, lt-suc-self, le-dest, mul-comm, mul-add, mul-le-mul, mul-le-mul-left, mul-le-mul-right, div-lt-iff-lt-mul}
 use native.Mathlib.Decide.{decLe}
 use native.Mathlib.Omega.{arith}
 use Rattle.arithmetic.specs.Greatest.{Greatest}

@@ -2,7 +2,7 @@
 -- The ranges only just keep the limit within 64 bits.
 -- Assumes nothing.
 use borrow.Author.Needs.{needs}
-use mathlib.Core.Path.{_≡_, ap, sym, _∙_}
+use mathlib.Core.Path.{ap, sym, _∙_}
 use Rattle.arithmetic.proofs.Bounds.{exactly, _⊗_, fits}
 use Rattle.compression.specs.Root.{rootOf}
 use Rattle.compression.proofs.Buckling.{buckling-root}

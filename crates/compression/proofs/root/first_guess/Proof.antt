@@ -1,7 +1,7 @@
--- `compression::root::first_guess` meets its contract: the stored guess for x's length is safe, by the test over the table.
+-- `compression::root::first_guess` meets its contract: the test over the code's own table makes the guess for x's length safe.
 -- Assumes nothing.
 use borrow.Author.Needs.{needs}
-use Rattle.compression.proofs.root.Guesses.{guesses, stored}
+use Rattle.compression.proofs.root.Guesses.{stored}
 use Rattle.compression.proofs.root.first_guess.Statement.{statement}
 use Rattle.compression.proofs.root.first_guess.Tie as tie
 
@@ -18,8 +18,7 @@ array-read-result : tie.Need-array-read-result
 array-read-result c = search needs
 
 returns : tie.Need-returns
-unfolding guesses
-returns c = stored (c .before .args .x) (c .bit-length .result) (c .bit-length .ensures)
+returns c = search (stored, tt)
 
 pub first-guess-spec : {M : Type 1} → statement M
 first-guess-spec =
