@@ -1,0 +1,2 @@
+// Joint files.
+mod number;

@@ -1,0 +1,44 @@
+// Numbers of a joint file: groups of seven bits, the lowest first, the top bit set when more follow.
+ghost use mathlib.Core.Path.{_≡_};
+ghost use Rattle.jointfile.specs.Number.{NumberRead};
+
+// What reading a number answers: its value with the place after its last byte, or document 01's refusal number.
+pub enum Number {
+    Value { value: u32, next: usize },
+    Refused(u32),
+}
+
+fn wide(byte: u8) -> u32
+    ensures { λ r. ⌜ r ≡ byte ⌝ }
+{
+    byte as u32
+}
+
+// Reads the number that begins at `from`.
+pub fn number_at(bytes: &[u8], from: usize) -> Number
+    ensures { λ r. ⌜ NumberRead (now (bytes .entry)) from r ⌝ }
+{
+    let mut at = from;
+    let mut scale: u32 = 1;
+    let mut value: u32 = 0;
+    while at < bytes.len() {
+        let byte = wide(bytes[at]);
+        let before = at - from;
+        at += 1;
+        if (4 <= before) & (15 < byte) {
+            return Number::Refused(2);
+        }
+        if byte < 128 {
+            if (0 < before) & (byte == 0) {
+                return Number::Refused(2);
+            }
+            return Number::Value {
+                value: value + scale * byte,
+                next: at,
+            };
+        }
+        value += scale * (byte - 128);
+        scale *= 128;
+    }
+    Number::Refused(1)
+}
