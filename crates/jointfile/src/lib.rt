@@ -1,2 +1,3 @@
 // Joint files.
+mod fields;
 mod number;
