@@ -1,3 +1,4 @@
 pub mod Groups
 pub mod Codec
 pub mod Axial
+pub mod Runs

@@ -1,5 +1,5 @@
--- A joint file, as document 01's Read has it: which numbers a joint has, in which order, and what reading one gives.
--- Assumes nothing.
+-- The fields 1 to 29 of a joint in file order, as numbers: of a joint, and the joint of them. Document 01, 'The joint's fields, in
+-- file order', and of field 27 'Read'. Assumes nothing.
 use Prim.Native.Nat.{ℕ, zero, suc, _+_, _-_, _*_, _/_, _%_, _≤_, _<_}
 use mathlib.Core.Path.{_≡_}
 use mathlib.Core.List.{List, [], _∷_, _++_}
@@ -18,10 +18,6 @@ use Rattle.joint.specs.declared.Plate.{Plate}
 use Rattle.joint.specs.declared.Welds.{Welds}
 use Rattle.jointfile.specs.Outcome.{Outcome, got, refused, after}
 use Rattle.jointfile.specs.Number.{readNumber}
-
--- "rows n, 1 to 8"
-unfoldable pub rowCount : ℕ → Bool
-rowCount rows = leb 1 rows && leb rows 8
 
 -- "N is stored as 2N, or −2N − 1 when negative": `negsuc n` is −n − 1
 unfoldable pub storedAxial : ℤ → ℕ

@@ -1,3 +1,4 @@
 pub mod Outcome
 pub mod Number
 pub mod Fields
+pub mod File

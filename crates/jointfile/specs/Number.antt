@@ -56,3 +56,8 @@ pub record NumberRead (bytes : List ℕ) (from : ℕ) (answer : Number) : Type 0
 -- The numbers are bytes.
 abbrev pub Bytes : List ℕ → Type 0
 Bytes bytes = (k : ℕ) → getD bytes k 0 < 256
+
+-- document 01's number of a refusal, and 0 of a number
+abbrev pub refusalNumber : Number → ℕ
+refusalNumber (Value x next) = 0
+refusalNumber (Refused r) = r

@@ -1,6 +1,6 @@
 // Numbers of a joint file: groups of seven bits, the lowest first, the top bit set when more follow.
 ghost use mathlib.Core.Path.{_≡_};
-ghost use Rattle.jointfile.specs.Number.{NumberRead};
+ghost use Rattle.jointfile.specs.Number.{NumberRead, refusalNumber};
 
 // What reading a number answers: its value with the place after its last byte, or document 01's refusal number.
 pub enum Number {
@@ -41,4 +41,14 @@ pub fn number_at(bytes: &[u8], from: usize) -> Number
         scale *= 128;
     }
     Number::Refused(1)
+}
+
+// The refusal of an answer that is no number.
+pub fn refusal_of(number: Number) -> u32
+    ensures { λ r. ⌜ r ≡ refusalNumber number ⌝ }
+{
+    match number {
+        Number::Value { value: _, next: _ } => 0,
+        Number::Refused(refusal) => refusal,
+    }
 }

@@ -1,0 +1,33 @@
+// Runs of numbers, one after another.
+use crate::number::Number;
+use crate::number::number_at;
+use crate::number::refusal_of;
+ghost use Prim.Native.Nat.{_≤_};
+ghost use mathlib.Core.Path.{_≡_};
+ghost use lib.ListN.{length};
+ghost use Rattle.jointfile.specs.File.{RunRead};
+
+// What reading a run answers: the place after its last number, or the refusal of the first that can't be read.
+pub enum Run {
+    Next(usize),
+    Refused(u32),
+}
+
+// Fills `values` with the numbers that begin at `from`.
+pub fn numbers_at(bytes: &[u8], from: usize, values: &mut [u32]) -> Run
+    requires { ⌜ from ≤ length (now bytes) ⌝ }
+    ensures { λ r. ⌜ RunRead (now (bytes .entry)) from (length (now (values .entry))) (now (values .exit)) r ⌝ }
+{
+    let mut at = from;
+    let mut i = 0;
+    while i < values.len() {
+        let number = number_at(bytes, at);
+        let Number::Value { value, next } = number else {
+            return Run::Refused(refusal_of(number));
+        };
+        values[i] = value;
+        at = next;
+        i += 1;
+    }
+    Run::Next(at)
+}
