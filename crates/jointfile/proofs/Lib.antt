@@ -2,3 +2,4 @@ pub mod Groups
 pub mod Codec
 pub mod Axial
 pub mod Runs
+pub mod Answers

@@ -84,7 +84,7 @@ faceOf fields levers =
     }
 
 -- A joint of its fields 1 to 29, in file order, and its eight levers.
-abbrev pub jointOf : List ℕ → List ℕ → Joint
+unfoldable pub jointOf : List ℕ → List ℕ → Joint
 jointOf fields levers = record { column = columnOf fields; bolts = boltsOf fields; face = faceOf fields levers }
 
 -- The fields 1 to 29 of a joint, in file order.

@@ -72,3 +72,8 @@ endPlace (Refused r) = 0
 pub record RunRead (bytes : List ℕ) (from count : ℕ) (values : List ℕ) (run : Run) : Type 0 where
   pub told : runTold bytes values run ≡ readNumbers count (drop from bytes)
   pub within : endPlace run ≤ length bytes
+
+-- document 01's number of a run's refusal, and 0 of one that was read
+abbrev pub runRefusal : Run → ℕ
+runRefusal (Next next) = 0
+runRefusal (Refused r) = r

@@ -5,7 +5,7 @@ use crate::number::refusal_of;
 ghost use Prim.Native.Nat.{_≤_};
 ghost use mathlib.Core.Path.{_≡_};
 ghost use lib.ListN.{length};
-ghost use Rattle.jointfile.specs.File.{RunRead};
+ghost use Rattle.jointfile.specs.File.{RunRead, runRefusal};
 
 // What reading a run answers: the place after its last number, or the refusal of the first that can't be read.
 pub enum Run {
@@ -30,4 +30,14 @@ pub fn numbers_at(bytes: &[u8], from: usize, values: &mut [u32]) -> Run
         i += 1;
     }
     Run::Next(at)
+}
+
+// The refusal of a run that can't be read.
+pub fn run_refusal(run: Run) -> u32
+    ensures { λ r. ⌜ r ≡ runRefusal run ⌝ }
+{
+    match run {
+        Run::Next(_) => 0,
+        Run::Refused(refusal) => refusal,
+    }
 }

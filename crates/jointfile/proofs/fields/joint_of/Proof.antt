@@ -1,6 +1,6 @@
 -- `fields::joint_of` meets its contract: column and face are what their functions ensure, and the bolts are as they stand.
 -- Assumes nothing.
-use Rattle.jointfile.specs.Fields.{boltsOf}
+use Rattle.jointfile.specs.Fields.{boltsOf, jointOf}
 use borrow.Author.Needs.{needs}
 use Rattle.jointfile.proofs.fields.joint_of.Statement.{statement}
 use Rattle.jointfile.proofs.fields.joint_of.Tie as tie
@@ -18,6 +18,7 @@ face-of-requires : tie.Need-face-of-requires
 face-of-requires c κs = search needs
 
 returns : tie.Need-returns
+unfolding jointOf
 returns c =
     λ i. record { column = c .before .column-of .ensures i; bolts = boltsOf (c .before .before .args .t1); face = c .face-of .ensures i }
 

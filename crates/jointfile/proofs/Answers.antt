@@ -1,0 +1,80 @@
+-- Reading a joint, case by case: what the runs of numbers that the code reads say of the definition, for each place where it stops.
+-- Assumes nothing.
+use Prim.Native.Nat.{ℕ, zero, suc, _+_, _-_, _≤_, _<_}
+use mathlib.Core.Path.{_≡_, refl, sym, ap, _∙_}
+use mathlib.Core.List.{List, [], _∷_, _++_}
+use mathlib.Core.Bool.{Bool, true, false, cond, _&&_}
+use native.Mathlib.Omega.{arith}
+use native.Mathlib.Nat.{sub-zero, zero-sub}
+use borrow.Author.Tests.{leb-true}
+use lib.Dec.{leb}
+use lib.ListN.{length, drop, replicate, length-drop}
+use Rattle.joint.specs.declared.Joint.{Joint}
+use Rattle.jointfile.specs.Outcome.{Outcome, got, refused, after}
+use Rattle.jointfile.specs.Number.{readNumber, NumberRead}
+use Rattle.jointfile.specs.Fields.{jointOf}
+use Rattle.jointfile.specs.File.{rowCount, readNumbers, eight, readOthers, readJoint, RunRead, answer, reading}
+use Rattle.jointfile.specs.declared.number.Number.the-variants.{Value, Refused as NumberRefused}
+use Rattle.jointfile.specs.declared.run.Run.the-variants.{Next, Refused}
+
+-- ---- the number of rows
+
+pub row-count-most : (rows : ℕ) → rowCount rows ≡ true → rows ≤ 8
+unfolding rowCount
+row-count-most rows e = leb-true rows 8 (second (leb 1 rows) (leb rows 8) e)
+  where
+    second : (a b : Bool) → (a && b) ≡ true → b ≡ true
+    second true b e = e
+    second false b e = let z : _≡_ {A = ℕ} 0 1 = cc in absurd (omega arith)
+
+-- ---- the levers in an array of eight
+
+drop-replicate : (k n : ℕ) → drop k (replicate n (zero)) ≡ replicate (n - k) zero
+drop-replicate zero n = rw sub-zero
+drop-replicate (suc k) zero = rw zero-sub
+drop-replicate (suc k) (suc n) =
+    let less : suc n - suc k ≡ n - k = omega arith in
+    rw less (drop-replicate k n)
+
+pub levers-eight : (rows : ℕ) (levers : List ℕ) → length levers ≡ rows → levers ++ drop rows (replicate 8 0) ≡ eight levers
+levers-eight rows levers e = rw (e, drop-replicate rows 8)
+
+-- ---- what follows field 1
+
+module _ {bytes : List ℕ} {from : ℕ} {others : List ℕ} (rows : ℕ) where
+  pub others-refused : {r : ℕ} → RunRead bytes from 28 others (Refused r) → readOthers rows (drop from bytes) ≡ refused r
+  unfolding readOthers
+  others-refused read = rw (sym (read .told))
+
+  module _ {at : ℕ} {levers : List ℕ} (read : RunRead bytes from 28 others (Next at)) where
+    pub levers-refused : {r : ℕ} → RunRead bytes at rows levers (Refused r) → readOthers rows (drop from bytes) ≡ refused r
+    unfolding readOthers
+    levers-refused run = rw (sym (read .told), sym (run .told))
+
+    pub levers-got : {next : ℕ} → RunRead bytes at rows levers (Next next)
+        → readOthers rows (drop from bytes) ≡ got (jointOf (rows ∷ others) (eight levers)) (drop next bytes)
+    unfolding readOthers
+    levers-got run = rw (sym (read .told), sym (run .told))
+
+-- the place after the joint, of the bytes left
+pub answer-got : (bytes : List ℕ) (joint : Joint) (next : ℕ) → next ≤ length bytes
+    → answer (length bytes) (got joint (drop next bytes)) ≡ record { refusal = 0; joint = joint; next = next }
+answer-got bytes joint next within =
+    let place : length bytes - length (drop next bytes) ≡ next = omega (arith, length-drop next bytes) in
+    rw place
+
+-- ---- field 1
+
+module _ {bytes : List ℕ} where
+  pub first-refused : {r : ℕ} → NumberRead bytes 0 (NumberRefused r) → readJoint bytes ≡ refused r
+  unfolding readJoint
+  first-refused read = rw (sym (read .told))
+
+  module _ {rows next : ℕ} (read : NumberRead bytes 0 (Value rows next)) where
+    pub rows-refused : rowCount rows ≡ false → readJoint bytes ≡ refused 3
+    unfolding readJoint
+    rows-refused e = rw (sym (read .told), e)
+
+    pub rows-taken : rowCount rows ≡ true → readJoint bytes ≡ readOthers rows (drop next bytes)
+    unfolding readJoint
+    rows-taken e = rw (sym (read .told), e)
