@@ -3,7 +3,7 @@
 use Prim.Native.Nat.{ℕ, zero, suc, _+_, _-_, _≤_, _<_}
 use mathlib.Core.Path.{_≡_, refl, sym, ap, _∙_}
 use mathlib.Core.List.{List, [], _∷_, _++_}
-use mathlib.Core.Bool.{Bool, true, false, cond, _&&_}
+use mathlib.Core.Bool.{Bool, true, false, and-eq-true-iff}
 use native.Mathlib.Omega.{arith}
 use native.Mathlib.Nat.{sub-zero, zero-sub}
 use borrow.Author.Tests.{leb-true}
@@ -21,11 +21,7 @@ use Rattle.jointfile.specs.declared.run.Run.the-variants.{Next, Refused}
 
 pub row-count-most : (rows : ℕ) → rowCount rows ≡ true → rows ≤ 8
 unfolding rowCount
-row-count-most rows e = leb-true rows 8 (second (leb 1 rows) (leb rows 8) e)
-  where
-    second : (a b : Bool) → (a && b) ≡ true → b ≡ true
-    second true b e = e
-    second false b e = let z : _≡_ {A = ℕ} 0 1 = cc in absurd (omega arith)
+row-count-most rows e = leb-true rows 8 (and-eq-true-iff (leb 1 rows) (leb rows 8) .0 e .1)
 
 -- ---- the levers in an array of eight
 

@@ -15,7 +15,7 @@ ghost use Prim.Native.Nat.{_≤_};
 ghost use mathlib.Core.Path.{_≡_};
 ghost use lib.ListN.{length, drop};
 ghost use Rattle.jointfile.specs.Outcome.{refused};
-ghost use Rattle.jointfile.specs.File.{rowCount, readOthers, answer, reading};
+ghost use Rattle.jointfile.specs.File.{rowCount, readOthers, answer, reading, restOf};
 
 // What `read` answers.
 pub struct Reading {
@@ -82,4 +82,20 @@ pub fn read(bytes: &[u8]) -> Reading
         return read_others(bytes, value, next);
     }
     no_joint(3, bytes.len())
+}
+
+// What `write` answers: the file's length, or document 01's refusal number.
+pub enum Written {
+    Length(usize),
+    Refused(u32),
+}
+
+// The part of the bytes after their first joint, empty when it can't be read. It reads the joint again: a caller that has
+// `read`'s answer takes the bytes from its next place on, which are these.
+pub fn rest(bytes: &[u8]) -> &[u8]
+    ensures { λ r. ⌜ now r ≡ restOf (now (bytes .entry)) ⌝ }
+{
+    let reading = read(bytes);
+    let next = reading.next;
+    &bytes[next..]
 }

@@ -1,0 +1,65 @@
+-- Writing a joint file, as document 01's Write has it: the file of a joint, what is refused, and what the buffer holds afterwards.
+-- Assumes nothing.
+use Prim.Native.Nat.{ℕ, _^_, _<_}
+use mathlib.Core.Path.{_≡_}
+use mathlib.Core.List.{List, [], _∷_, _++_}
+use mathlib.Core.Bool.{Bool, true, cond, _&&_}
+use lib.Dec.{leb, eqb}
+use lib.ListN.{length, getD, take, drop}
+use Rattle.joint.specs.declared.Joint.{Joint}
+use Rattle.jointfile.specs.Number.{stored}
+use Rattle.jointfile.specs.Fields.{fieldsOf}
+use Rattle.jointfile.specs.File.{rowCount}
+use Rattle.jointfile.specs.declared.Written.{Written}
+use Rattle.jointfile.specs.declared.Written.the-variants.{Length, Refused}
+
+-- the stored forms of numbers, one after another
+unfoldable pub storedAll : List ℕ → List ℕ
+storedAll [] = []
+storedAll (x ∷ xs) = stored x ++ storedAll xs
+
+-- "the file, which has 29 + n numbers": the fields, and a lever for each row
+unfoldable pub file : Joint → List ℕ
+file joint = storedAll (fieldsOf joint ++ take (joint .face .rows) (joint .face .levers))
+
+unfoldable pub allZero : List ℕ → Bool
+allZero [] = true
+allZero (x ∷ xs) = eqb x 0 && allZero xs
+
+-- no spare lever but 0
+abbrev pub spareZero : Joint → Bool
+spareZero joint = allZero (drop (joint .face .rows) (joint .face .levers))
+
+-- What writing gives: document 01's refusal number or 0, the file's length or 0, and the buffer at exit.
+pub record Writing : Type 0 where
+  pub refusal : ℕ
+  pub size : ℕ
+  pub buffer : List ℕ
+
+-- "The buffer stays untouched"
+abbrev pub turnedDown : List ℕ → ℕ → Writing
+turnedDown buffer r = record { refusal = r; size = 0; buffer = buffer }
+
+-- "and past the file it does so on success"
+abbrev pub wrote : List ℕ → List ℕ → Writing
+wrote buffer bytes = record { refusal = 0; size = length bytes; buffer = bytes ++ drop (length bytes) buffer }
+
+-- "3 row count not 1 to 8; 6 a spare lever isn't 0; 5 the buffer is shorter than the file"
+unfoldable pub writing : Joint → List ℕ → Writing
+writing joint buffer =
+    cond (rowCount (joint .face .rows))
+    (cond (spareZero joint)
+    (cond (leb (length (file joint)) (length buffer)) (wrote buffer (file joint)) (turnedDown buffer 5))
+    (turnedDown buffer 6))
+    (turnedDown buffer 3)
+
+-- What each case of the enum `Written` says, with the buffer at exit.
+abbrev pub writtenTold : Written → List ℕ → Writing
+writtenTold (Length size) buffer = record { refusal = 0; size = size; buffer = buffer }
+writtenTold (Refused r) buffer = turnedDown buffer r
+
+-- A joint that the program can hold: eight levers, and each number in 32 bits, of field 27 its stored form.
+pub record Held (joint : Joint) : Type 0 where
+  pub eight : length (joint .face .levers) ≡ 8
+  pub fields : (k : ℕ) → getD (fieldsOf joint) k 0 < 2 ^ 32
+  pub levers : (k : ℕ) → getD (joint .face .levers) k 0 < 2 ^ 32
