@@ -35,11 +35,11 @@ read-more : (before byte : ℕ) (left : List ℕ) → 128 ≤ byte → before < 
 unfolding readGroups
 read-more before byte left follows early = simp (not-over before byte (λ h. absurd (omega arith)), le-ltb byte 128 follows)
 
-groups-last : (most x : ℕ) → x < 128 → groups (suc most) x ≡ x ∷ []
+pub groups-last : (most x : ℕ) → x < 128 → groups (suc most) x ≡ x ∷ []
 unfolding groups
 groups-last most x last = simp (lt-ltb x 128 last)
 
-groups-more : (most x : ℕ) → 128 ≤ x → groups (suc most) x ≡ (128 + x % 128) ∷ groups most (x / 128)
+pub groups-more : (most x : ℕ) → 128 ≤ x → groups (suc most) x ≡ (128 + x % 128) ∷ groups most (x / 128)
 unfolding groups
 groups-more most x follows = simp (le-ltb x 128 follows)
 

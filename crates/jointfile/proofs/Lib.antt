@@ -5,3 +5,5 @@ pub mod Runs
 pub mod Answers
 pub mod RoundTrip
 pub mod Places
+pub mod Sizes
+pub mod Puts

@@ -1,11 +1,12 @@
 -- Writing a joint file, as document 01's Write has it: the file of a joint, what is refused, and what the buffer holds afterwards.
 -- Assumes nothing.
-use Prim.Native.Nat.{ℕ, _^_, _<_}
+use Prim.Native.Nat.{ℕ, _+_, _^_, _<_}
 use mathlib.Core.Path.{_≡_}
 use mathlib.Core.List.{List, [], _∷_, _++_}
 use mathlib.Core.Bool.{Bool, true, cond, _&&_}
 use lib.Dec.{leb, eqb}
 use lib.ListN.{length, getD, take, drop}
+use lib.Seq.{sets}
 use Rattle.joint.specs.declared.Joint.{Joint}
 use Rattle.jointfile.specs.Number.{stored}
 use Rattle.jointfile.specs.Fields.{fieldsOf}
@@ -17,6 +18,11 @@ use Rattle.jointfile.specs.declared.Written.the-variants.{Length, Refuse
 unfoldable pub storedAll : List ℕ → List ℕ
 storedAll [] = []
 storedAll (x ∷ xs) = stored x ++ storedAll xs
+
+-- Bytes put into a buffer from a place on, with the place after them.
+pub record Put (buffer : List ℕ) (from : ℕ) (bytes exit : List ℕ) (next : ℕ) : Type 0 where
+  pub place : next ≡ from + length bytes
+  pub stores : exit ≡ sets buffer from bytes
 
 -- "the file, which has 29 + n numbers": the fields, and a lever for each row
 unfoldable pub file : Joint → List ℕ
@@ -44,14 +50,14 @@ turnedDown buffer r = record { refusal = r; size = 0; buffer = buffer }
 abbrev pub wrote : List ℕ → List ℕ → Writing
 wrote buffer bytes = record { refusal = 0; size = length bytes; buffer = bytes ++ drop (length bytes) buffer }
 
--- "3 row count not 1 to 8; 6 a spare lever isn't 0; 5 the buffer is shorter than the file"
+-- "5 the buffer is shorter than the file"
+unfoldable pub placed : List ℕ → List ℕ → Writing
+placed bytes buffer = cond (leb (length bytes) (length buffer)) (wrote buffer bytes) (turnedDown buffer 5)
+
+-- "3 row count not 1 to 8; 6 a spare lever isn't 0", and then 5
 unfoldable pub writing : Joint → List ℕ → Writing
 writing joint buffer =
-    cond (rowCount (joint .face .rows))
-    (cond (spareZero joint)
-    (cond (leb (length (file joint)) (length buffer)) (wrote buffer (file joint)) (turnedDown buffer 5))
-    (turnedDown buffer 6))
-    (turnedDown buffer 3)
+    cond (rowCount (joint .face .rows)) (cond (spareZero joint) (placed (file joint) buffer) (turnedDown buffer 6)) (turnedDown buffer 3)
 
 -- What each case of the enum `Written` says, with the buffer at exit.
 abbrev pub writtenTold : Written → List ℕ → Writing

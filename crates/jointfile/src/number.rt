@@ -1,6 +1,9 @@
 // Numbers of a joint file: groups of seven bits, the lowest first, the top bit set when more follow.
 ghost use mathlib.Core.Path.{_≡_};
-ghost use Rattle.jointfile.specs.Number.{NumberRead, refusalNumber};
+ghost use Prim.Native.Nat.{_+_, _≤_};
+ghost use lib.ListN.{length};
+ghost use Rattle.jointfile.specs.Number.{stored, NumberRead, refusalNumber};
+ghost use Rattle.jointfile.specs.Write.{Put};
 
 // What reading a number answers: its value with the place after its last byte, or document 01's refusal number.
 pub enum Number {
@@ -51,4 +54,31 @@ pub fn refusal_of(number: Number) -> u32
         Number::Value { value: _, next: _ } => 0,
         Number::Refused(refusal) => refusal,
     }
+}
+
+// The count of bytes in a number's stored form: one, and one more for each seven bits that it reaches past.
+pub fn stored_length(x: u32) -> usize
+    ensures { λ r. ⌜ r ≡ length (stored x) ⌝ }
+{
+    1
+        + (128 <= x) as usize
+        + (16384 <= x) as usize
+        + (2097152 <= x) as usize
+        + (268435456 <= x) as usize
+}
+
+// Writes a number's stored form from `from` on, and answers the place after it.
+pub fn put_number(buffer: &mut [u8], from: usize, x: u32) -> usize
+    requires { ⌜ from + length (stored x) ≤ length (now buffer) ⌝ }
+    ensures { λ r. ⌜ Put (now (buffer .entry)) from (stored x) (now (buffer .exit)) r ⌝ }
+{
+    let mut at = from;
+    let mut left = x;
+    while 128 <= left {
+        buffer[at] = (128 + left % 128) as u8;
+        left /= 128;
+        at += 1;
+    }
+    buffer[at] = left as u8;
+    at + 1
 }

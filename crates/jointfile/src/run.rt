@@ -1,11 +1,14 @@
 // Runs of numbers, one after another.
 use crate::number::Number;
 use crate::number::number_at;
+use crate::number::put_number;
 use crate::number::refusal_of;
-ghost use Prim.Native.Nat.{_≤_};
+use crate::number::stored_length;
+ghost use Prim.Native.Nat.{_+_, _≤_};
 ghost use mathlib.Core.Path.{_≡_};
 ghost use lib.ListN.{length};
 ghost use Rattle.jointfile.specs.File.{RunRead, runRefusal};
+ghost use Rattle.jointfile.specs.Write.{storedAll, Put};
 
 // What reading a run answers: the place after its last number, or the refusal of the first that can't be read.
 pub enum Run {
@@ -40,4 +43,32 @@ pub fn run_refusal(run: Run) -> u32
         Run::Next(_) => 0,
         Run::Refused(refusal) => refusal,
     }
+}
+
+// The count of bytes in the stored forms of the numbers.
+pub fn stored_size(values: &[u32]) -> usize
+    ensures { λ r. ⌜ r ≡ length (storedAll (now (values .entry))) ⌝ }
+{
+    let mut size = 0;
+    let mut i = 0;
+    while i < values.len() {
+        size += stored_length(values[i]);
+        i += 1;
+    }
+    size
+}
+
+// Writes the stored forms of the numbers from `from` on, and answers the place after them.
+pub fn put_numbers(buffer: &mut [u8], from: usize, values: &[u32]) -> usize
+    requires { ⌜ from + length (storedAll (now values)) ≤ length (now buffer) ⌝ }
+    ensures { λ r. ⌜ Put (now (buffer .entry)) from (storedAll (now (values .entry))) (now (buffer .exit)) r ⌝ }
+{
+    let mut at = from;
+    let mut i = 0;
+    while i < values.len() {
+        let next = put_number(buffer, at, values[i]);
+        at = next;
+        i += 1;
+    }
+    at
 }
