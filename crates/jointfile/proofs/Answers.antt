@@ -8,12 +8,14 @@ use native.Mathlib.Omega.{arith}
 use native.Mathlib.Nat.{sub-zero, zero-sub}
 use borrow.Author.Tests.{leb-true}
 use lib.Dec.{leb}
-use lib.ListN.{length, drop, replicate, length-drop}
+use lib.ListN.{length, take, drop, replicate, length-drop}
 use Rattle.joint.specs.declared.Joint.{Joint}
 use Rattle.jointfile.specs.Outcome.{Outcome, got, refused, after}
 use Rattle.jointfile.specs.Number.{readNumber, NumberRead}
-use Rattle.jointfile.specs.Fields.{jointOf}
+use Rattle.jointfile.specs.Fields.{jointOf, fieldsOf}
 use Rattle.jointfile.specs.File.{rowCount, readNumbers, eight, readOthers, readJoint, RunRead, answer, reading}
+use Rattle.jointfile.specs.Write.{storedAll, fileOf, allZero, turnedDown, placed, writingRows, writing}
+use Rattle.jointfile.proofs.Sizes.{storedAll-append}
 use Rattle.jointfile.specs.declared.number.Number.the-variants.{Value, Refused as NumberRefused}
 use Rattle.jointfile.specs.declared.run.Run.the-variants.{Next, Refused}
 
@@ -74,3 +76,25 @@ module _ {bytes : List ℕ} where
     pub rows-taken : rowCount rows ≡ true → readJoint bytes ≡ readOthers rows (drop next bytes)
     unfolding readJoint
     rows-taken e = rw (sym (read .told), e)
+
+-- ---- writing
+
+module _ (fields : List ℕ) (rows : ℕ) (levers buffer : List ℕ) where
+  pub writing-spare : allZero (drop rows levers) ≡ false → turnedDown buffer 6 ≡ writingRows fields rows levers buffer
+  unfolding writingRows
+  writing-spare e = rw e
+
+  pub writing-file : allZero (drop rows levers) ≡ true
+      → placed (storedAll fields ++ storedAll (take rows levers)) buffer ≡ writingRows fields rows levers buffer
+  unfolding writingRows fileOf
+  writing-file e = rw (e, storedAll-append)
+
+module _ (joint : Joint) (buffer : List ℕ) where
+  pub writing-refused : rowCount (joint .face .rows) ≡ false → turnedDown buffer 3 ≡ writing joint buffer
+  unfolding writing
+  writing-refused e = rw e
+
+  pub writing-rows : rowCount (joint .face .rows) ≡ true
+      → writingRows (fieldsOf joint) (joint .face .rows) (joint .face .levers) buffer ≡ writing joint buffer
+  unfolding writing
+  writing-rows e = rw e

@@ -3,13 +3,15 @@
 use Prim.Native.Nat.{ℕ, zero, suc, _+_, _-_, _*_, _/_, _%_, _^_, _≤_, _<_}
 use mathlib.Core.Path.{_≡_, refl, sym, ap, _∙_}
 use mathlib.Core.List.{List, [], _∷_, _++_}
+use mathlib.Core.Bool.{true, false}
 use native.Mathlib.Omega.{arith}
 use native.Mathlib.Numerals.{add-one}
-use native.Mathlib.Nat.{pow-suc, add-zero, add-assoc}
+use native.Mathlib.Nat.{pow-suc, add-zero, zero-add}
+use borrow.Author.Tests.{le-leb, lt-leb, ne-eqb}
 use lib.ListN.{length, getD, drop, set, length-set, length-append, drop-of-length-le}
-use lib.Seq.{sets, drop-cons, length-sets}
+use lib.Seq.{sets, sets-eq, drop-cons, length-sets}
 use Rattle.jointfile.specs.Number.{groups, stored}
-use Rattle.jointfile.specs.Write.{storedAll, Put}
+use Rattle.jointfile.specs.Write.{storedAll, Put, allZero, turnedDown, placed}
 use Rattle.jointfile.proofs.Codec.{groups-last, groups-more}
 use Rattle.jointfile.proofs.Sizes.{groups-positive}
 
@@ -103,3 +105,35 @@ module _ {buffer₀ : List ℕ} {from : ℕ} {values buffer : List ℕ} {at i : 
               (sym (sets-append buffer at (stored x) (storedAll (drop (i + 1) values)))
               ∙ ap (sets buffer at) (sym (stored-next values i inside)) ∙ head .writes);
         }
+
+-- ---- into a buffer
+
+pub placed-short : (bytes buffer : List ℕ) → length buffer < length bytes → turnedDown buffer 5 ≡ placed bytes buffer
+unfolding placed
+placed-short bytes buffer short = simp (lt-leb (length bytes) (length buffer) short)
+
+-- two parts put one after the other are the whole
+pub placed-parts : {xs ys buffer between exit : List ℕ} {at next : ℕ} → Put buffer 0 xs between at → Put between at ys exit next
+    → length xs + length ys ≤ length buffer
+    → record { refusal = 0; size = length xs + length ys; buffer = exit } ≡ placed (xs ++ ys) buffer
+unfolding placed
+placed-parts {xs} {ys} {buffer} {between} {exit} {at} first second room =
+    let size : length (xs ++ ys) ≡ length xs + length ys = length-append xs ys in
+    let both : exit ≡ sets buffer 0 (xs ++ ys) = second .stores ∙ rw (first .stores, first .place) (sym (sets-append buffer 0 xs ys)) in
+    let whole : exit ≡ (xs ++ ys) ++ drop (length (xs ++ ys)) buffer =
+    both ∙ sets-eq (xs ++ ys) buffer 0 (omega arith) ∙ rw zero-add in
+    simp (le-leb (length (xs ++ ys)) (length buffer) (omega arith)) (λ i. record { refusal = 0; size = sym size i; buffer = whole i })
+
+-- ---- numbers that are all 0
+
+pub zero-next : (values : List ℕ) (i : ℕ) → i < length values → getD values i 0 ≡ 0 → allZero (drop i values) ≡ allZero (drop (i + 1) values)
+unfolding allZero
+zero-next values i inside e = rw (add-one, drop-cons values i 0, e)
+
+pub zero-not : (values : List ℕ) (i : ℕ) → i < length values → (getD values i 0 ≡ 0 → ⊥) → allZero (drop i values) ≡ false
+unfolding allZero
+zero-not values i inside e = rw (drop-cons values i 0) (simp (ne-eqb (getD values i 0) 0 e))
+
+pub zero-end : (values : List ℕ) (i : ℕ) → length values ≤ i → allZero (drop i values) ≡ true
+unfolding allZero
+zero-end values i outside = rw (drop-of-length-le values outside)

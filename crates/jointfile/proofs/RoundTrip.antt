@@ -15,18 +15,14 @@ use Rattle.jointfile.specs.Outcome.{Outcome, got, refused, after}
 use Rattle.jointfile.specs.Number.{stored, readNumber, Bytes}
 use Rattle.jointfile.specs.Fields.{axialOf, storedAxial, jointOf, fieldsOf}
 use Rattle.jointfile.specs.File.{rowCount, readNumbers, eight, readOthers, readJoint}
-use Rattle.jointfile.specs.Write.{storedAll, file, allZero, spareZero, Held}
+use Rattle.jointfile.specs.Write.{storedAll, fileOf, file, allZero, spareZero, Held}
 use Rattle.jointfile.proofs.Codec.{read-stored, stored-read, number-small}
+use Rattle.jointfile.proofs.Sizes.{storedAll-append}
 use Rattle.jointfile.proofs.Axial.{axial-stored, stored-axial}
 use Rattle.jointfile.proofs.Groups.{split}
 use Rattle.jointfile.proofs.Answers.{row-count-most}
 
 -- ---- runs of numbers
-
-storedAll-append : (xs ys : List ℕ) → storedAll (xs ++ ys) ≡ storedAll xs ++ storedAll ys
-unfolding storedAll
-storedAll-append [] ys = refl
-storedAll-append (x ∷ xs) ys = rw (storedAll-append xs ys, append-assoc)
 
 read-storedAll : (xs : List ℕ) → ((k : ℕ) → getD xs k 0 < 2 ^ 32) → (left : List ℕ)
     → readNumbers (length xs) (storedAll xs ++ left) ≡ got xs left
@@ -153,7 +149,7 @@ read-file rows others levers left count long each small smalls smalls′ =
 -- the joint, and leaves exactly what came after.
 pub reads-back : (joint : Joint) → Held joint → rowCount (joint .face .rows) ≡ true → spareZero joint ≡ true → (left : List ℕ)
     → readJoint (file joint ++ left) ≡ got joint left
-unfolding fieldsOf file
+unfolding fieldsOf fileOf
 reads-back joint held count spare left =
     let rows = joint .face .rows in
     let levers = joint .face .levers in
@@ -178,7 +174,7 @@ module _ (rows : ℕ) (others levers bytes bytes₁ bytes₂ left : List ℕ) (c
   same-fields = fields-joint (rows ∷ others) (eight levers) (ap suc (taken .long))
 
   same-file : file (jointOf (rows ∷ others) (eight levers)) ≡ storedAll ((rows ∷ others) ++ levers)
-  unfolding file jointOf
+  unfolding fileOf jointOf
   same-file =
       ap₂ (λ (xs ys : List ℕ). storedAll (xs ++ ys)) same-fields
       (take-at levers (replicate (8 - length levers) 0) rows (taken′ .long))

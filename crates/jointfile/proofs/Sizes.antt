@@ -4,7 +4,7 @@ use Prim.Native.Nat.{ℕ, zero, suc, _+_, _*_, _/_, _≤_, _<_}
 use mathlib.Core.Path.{_≡_, refl, sym, ap, ap₂, _∙_}
 use mathlib.Core.Bool.{Bool, true, false}
 use mathlib.Core.Logic.{_⊎_, inl, inr, ⊎-elim}
-use mathlib.Core.List.{List, [], _∷_, _++_}
+use mathlib.Core.List.{List, [], _∷_, _++_, append-assoc}
 use native.Mathlib.Omega.{arith}
 use borrow.Author.Tests.{le-leb, lt-leb}
 use lib.Dec.{leb}
@@ -70,3 +70,8 @@ pub storedAll-short : (xs : List ℕ) → length (storedAll xs) ≤ 5 * length x
 unfolding storedAll
 storedAll-short [] = omega arith
 storedAll-short (x ∷ xs) = rw length-append (omega (arith, groups-short 5 x, storedAll-short xs))
+
+pub storedAll-append : (xs ys : List ℕ) → storedAll (xs ++ ys) ≡ storedAll xs ++ storedAll ys
+unfolding storedAll
+storedAll-append [] ys = refl
+storedAll-append (x ∷ xs) ys = rw (storedAll-append xs ys, append-assoc)

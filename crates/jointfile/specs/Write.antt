@@ -25,8 +25,11 @@ pub record Put (buffer : List ℕ) (from : ℕ) (bytes exit : List ℕ) (next : 
   pub stores : exit ≡ sets buffer from bytes
 
 -- "the file, which has 29 + n numbers": the fields, and a lever for each row
-unfoldable pub file : Joint → List ℕ
-file joint = storedAll (fieldsOf joint ++ take (joint .face .rows) (joint .face .levers))
+unfoldable pub fileOf : List ℕ → ℕ → List ℕ → List ℕ
+fileOf fields rows levers = storedAll (fields ++ take rows levers)
+
+abbrev pub file : Joint → List ℕ
+file joint = fileOf (fieldsOf joint) (joint .face .rows) (joint .face .levers)
 
 unfoldable pub allZero : List ℕ → Bool
 allZero [] = true
@@ -54,10 +57,17 @@ wrote buffer bytes = record { refusal = 0; size = length bytes; buffer = bytes +
 unfoldable pub placed : List ℕ → List ℕ → Writing
 placed bytes buffer = cond (leb (length bytes) (length buffer)) (wrote buffer bytes) (turnedDown buffer 5)
 
--- "3 row count not 1 to 8; 6 a spare lever isn't 0", and then 5
+-- "6 a spare lever isn't 0", and then 5
+unfoldable pub writingRows : List ℕ → ℕ → List ℕ → List ℕ → Writing
+writingRows fields rows levers buffer =
+    cond (allZero (drop rows levers)) (placed (fileOf fields rows levers) buffer) (turnedDown buffer 6)
+
+-- "3 row count not 1 to 8", and then 6 and 5
 unfoldable pub writing : Joint → List ℕ → Writing
 writing joint buffer =
-    cond (rowCount (joint .face .rows)) (cond (spareZero joint) (placed (file joint) buffer) (turnedDown buffer 6)) (turnedDown buffer 3)
+    cond (rowCount (joint .face .rows))
+    (writingRows (fieldsOf joint) (joint .face .rows) (joint .face .levers) buffer)
+    (turnedDown buffer 3)
 
 -- What each case of the enum `Written` says, with the buffer at exit.
 abbrev pub writtenTold : Written → List ℕ → Writing

@@ -3,19 +3,25 @@ mod fields;
 mod number;
 mod run;
 
+use fields::fields_of;
 use fields::joint_of;
 use joint::Joint;
 use number::Number;
 use number::number_at;
 use number::refusal_of;
 use run::Run;
+use run::all_zero;
 use run::numbers_at;
+use run::put_numbers;
 use run::run_refusal;
+use run::stored_size;
 ghost use Prim.Native.Nat.{_≤_};
 ghost use mathlib.Core.Path.{_≡_};
+ghost use mathlib.Core.List.{_++_};
 ghost use lib.ListN.{length, drop};
 ghost use Rattle.jointfile.specs.Outcome.{refused};
 ghost use Rattle.jointfile.specs.File.{rowCount, readOthers, answer, reading, restOf};
+ghost use Rattle.jointfile.specs.Write.{storedAll, placed, writingRows, writing, writtenTold};
 
 // What `read` answers.
 pub struct Reading {
@@ -84,12 +90,6 @@ pub fn read(bytes: &[u8]) -> Reading
     no_joint(3, bytes.len())
 }
 
-// What `write` answers: the file's length, or document 01's refusal number.
-pub enum Written {
-    Length(usize),
-    Refused(u32),
-}
-
 // The part of the bytes after their first joint, empty when it can't be read. It reads the joint again: a caller that has
 // `read`'s answer takes the bytes from its next place on, which are these.
 pub fn rest(bytes: &[u8]) -> &[u8]
@@ -98,4 +98,51 @@ pub fn rest(bytes: &[u8]) -> &[u8]
     let reading = read(bytes);
     let next = reading.next;
     &bytes[next..]
+}
+
+// What `write` answers: the file's length, or document 01's refusal number.
+pub enum Written {
+    Length(usize),
+    Refused(u32),
+}
+
+// Puts the stored forms of the fields and of the levers into the buffer, if it has room for them. They are measured first, since a
+// buffer that is too short stays untouched.
+fn put_file(fields: &[u32], levers: &[u32], buffer: &mut [u8]) -> Written
+    requires { ⌜ (length (now fields) ≤ 29) × (length (now levers) ≤ 8) ⌝ }
+    ensures { λ r. ⌜ writtenTold r (now (buffer .exit)) ≡ placed (storedAll (now (fields .entry)) ++ storedAll (now (levers .entry))) (now (buffer .entry)) ⌝ }
+{
+    let size = stored_size(fields) + stored_size(levers);
+    if buffer.len() < size {
+        return Written::Refused(5);
+    }
+    let at = put_numbers(buffer, 0, fields);
+    put_numbers(buffer, at, levers);
+    Written::Length(size)
+}
+
+// Writes the file of a joint whose row count is right.
+fn write_rows(fields: [u32; 29], rows: u32, levers: [u32; 8], buffer: &mut [u8]) -> Written
+    requires { ⌜ rows ≤ 8 ⌝ }
+    ensures { λ r. ⌜ writtenTold r (now (buffer .exit)) ≡ writingRows fields rows levers (now (buffer .entry)) ⌝ }
+{
+    let count = rows as usize;
+    if all_zero(&levers[count..]) {
+        return put_file(&fields, &levers[..count], buffer);
+    }
+    Written::Refused(6)
+}
+
+// Writes a joint's file to the front of the buffer.
+pub fn write(joint: Joint, buffer: &mut [u8]) -> Written
+    ensures { λ r. ⌜ writtenTold r (now (buffer .exit)) ≡ writing joint (now (buffer .entry)) ⌝ }
+{
+    let face = joint.face;
+    let rows = face.rows;
+    let levers = face.levers;
+    if is_row_count(rows) {
+        let fields = fields_of(joint);
+        return write_rows(fields, rows, levers, buffer);
+    }
+    Written::Refused(3)
 }

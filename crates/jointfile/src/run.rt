@@ -8,7 +8,7 @@ ghost use Prim.Native.Nat.{_+_, _≤_};
 ghost use mathlib.Core.Path.{_≡_};
 ghost use lib.ListN.{length};
 ghost use Rattle.jointfile.specs.File.{RunRead, runRefusal};
-ghost use Rattle.jointfile.specs.Write.{storedAll, Put};
+ghost use Rattle.jointfile.specs.Write.{allZero, storedAll, Put};
 
 // What reading a run answers: the place after its last number, or the refusal of the first that can't be read.
 pub enum Run {
@@ -71,4 +71,17 @@ pub fn put_numbers(buffer: &mut [u8], from: usize, values: &[u32]) -> usize
         i += 1;
     }
     at
+}
+
+pub fn all_zero(values: &[u32]) -> bool
+    ensures { λ r. ⌜ r ≡ allZero (now (values .entry)) ⌝ }
+{
+    let mut i = 0;
+    while i < values.len() {
+        if values[i] != 0 {
+            return false;
+        }
+        i += 1;
+    }
+    true
 }
