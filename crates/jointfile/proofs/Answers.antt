@@ -1,19 +1,19 @@
 -- Reading a joint, case by case: what the runs of numbers that the code reads say of the definition, for each place where it stops.
 -- Assumes nothing.
-use Prim.Native.Nat.{ℕ, zero, suc, _+_, _-_, _≤_, _<_}
-use mathlib.Core.Path.{_≡_, refl, sym, ap, _∙_}
-use mathlib.Core.List.{List, [], _∷_, _++_}
-use mathlib.Core.Bool.{Bool, true, false, and-eq-true-iff}
+use Prim.Native.Nat.{ℕ, zero, suc, _-_, _≤_}
+use mathlib.Core.Path.{_≡_, sym}
+use mathlib.Core.List.{List, _∷_, _++_}
+use mathlib.Core.Bool.{true, false, and-eq-true-iff}
 use native.Mathlib.Omega.{arith}
 use native.Mathlib.Nat.{sub-zero, zero-sub}
 use borrow.Author.Tests.{leb-true}
 use lib.Dec.{leb}
 use lib.ListN.{length, take, drop, replicate, length-drop}
 use Rattle.joint.specs.declared.Joint.{Joint}
-use Rattle.jointfile.specs.Outcome.{Outcome, got, refused, after}
-use Rattle.jointfile.specs.Number.{readNumber, NumberRead}
+use Rattle.jointfile.specs.Outcome.{got, refused}
+use Rattle.jointfile.specs.Number.{NumberRead}
 use Rattle.jointfile.specs.Fields.{jointOf, fieldsOf}
-use Rattle.jointfile.specs.File.{rowCount, readNumbers, eight, readOthers, readJoint, RunRead, answer, reading}
+use Rattle.jointfile.specs.File.{rowCount, eight, readOthers, readJoint, RunRead, answer}
 use Rattle.jointfile.specs.Write.{storedAll, fileOf, allZero, turnedDown, placed, writingRows, writing}
 use Rattle.jointfile.proofs.Sizes.{storedAll-append}
 use Rattle.jointfile.specs.declared.number.Number.the-variants.{Value, Refused as NumberRefused}

@@ -1,13 +1,13 @@
 -- The axial force as a number of the file: what the machine's -1 - z is on either sign, that the two forms undo one another, and that
 -- a force of 32 bits has a number of 32 bits. By cases on the sign. Assumes nothing.
-use Prim.Native.Nat.{ℕ, zero, suc, _+_, _-_, _*_, _/_, _%_, _^_, _≤_, _<_}
-use mathlib.Core.Path.{_≡_, refl, sym, ap, _∙_}
-use mathlib.Core.Bool.{Bool, true, false, cond}
+use Prim.Native.Nat.{ℕ, zero, suc, _+_, _-_, _*_, _/_, _%_, _^_, _<_}
+use mathlib.Core.Path.{_≡_, refl, ap, _∙_}
+use mathlib.Core.Bool.{Bool, true, false}
 use native.Mathlib.Omega.{arith}
 use native.Mathlib.Nat.{zero-add}
-use borrow.Author.Tests.{lt-ltb, le-ltb, eq-eqb, ne-eqb, eqb-true, eqb-false, ltb-true}
-use lib.Dec.{ltb, eqb}
-use lib.IntN.{ℤ, pos, negsuc, _-ℤ_, negℤ}
+use borrow.Author.Tests.{le-ltb, eq-eqb, ne-eqb, eqb-true, eqb-false, ltb-true}
+use lib.Dec.{eqb}
+use lib.IntN.{ℤ, pos, negsuc, _-ℤ_}
 use lib.Signed.{ltZ}
 use mir.Syntax.{w32}
 use mir.Val.{SFits, toZ, ofZ}

@@ -1,21 +1,21 @@
 -- The round trip of a joint file. What is written reads back to the same joint, with anything after it, and leaves exactly that; and what
 -- was read, written again, is the same bytes. Number by number from the codec, then field by field. Assumes nothing.
 use Prim.Native.Nat.{ℕ, zero, suc, _+_, _-_, _^_, _≤_, _<_}
-use mathlib.Core.Path.{_≡_, refl, sym, ap, ap₂, _∙_, subst, subst₂}
+use mathlib.Core.Path.{_≡_, refl, sym, ap, ap₂, _∙_, subst₂}
 use mathlib.Core.List.{List, [], _∷_, _++_, append-assoc}
 use mathlib.Core.Bool.{Bool, true, false, cond, and-eq-true-iff}
 use mathlib.Core.Logic.{⊎-elim}
 use native.Mathlib.Omega.{arith}
 use borrow.Author.Tests.{eqb-true}
-use lib.Dec.{eqb}
+use lib.Dec.{leb, eqb}
 use lib.ListN.{length, getD, take, drop, replicate, length-append, length-take, length-drop, take-append-drop, List·getD-eq-default, length-replicate}
 use lib.Seq.{getD-append-add, getD-take, length-take-le, take-at, drop-at}
 use Rattle.joint.specs.declared.Joint.{Joint}
 use Rattle.jointfile.specs.Outcome.{Outcome, got, refused, after}
 use Rattle.jointfile.specs.Number.{stored, readNumber, Bytes}
-use Rattle.jointfile.specs.Fields.{axialOf, storedAxial, jointOf, fieldsOf}
+use Rattle.jointfile.specs.Fields.{jointOf, fieldsOf}
 use Rattle.jointfile.specs.File.{rowCount, readNumbers, eight, readOthers, readJoint}
-use Rattle.jointfile.specs.Write.{storedAll, fileOf, file, allZero, spareZero, Held}
+use Rattle.jointfile.specs.Write.{storedAll, fileOf, file, allZero, spareZero, placed, writingRows, writing, Held, Writable}
 use Rattle.jointfile.proofs.Codec.{read-stored, stored-read, number-small}
 use Rattle.jointfile.proofs.Sizes.{storedAll-append}
 use Rattle.jointfile.proofs.Axial.{axial-stored, stored-axial}
@@ -145,28 +145,52 @@ read-file rows others levers left count long each small smalls smalls′ =
     let rest = read-storedAll levers smalls′ left in
     rw (storedAll-append, append-assoc, append-assoc, read-stored rows small, count, ← long, fields, ← each, rest)
 
--- Every joint that the program can hold, and that `write` does not refuse for 3 or 6: its file, with anything after it, reads back to
--- the joint, and leaves exactly what came after.
-pub reads-back : (joint : Joint) → Held joint → rowCount (joint .face .rows) ≡ true → spareZero joint ≡ true → (left : List ℕ)
-    → readJoint (file joint ++ left) ≡ got joint left
+-- Every joint that the program can hold, and that `write` refuses by neither 3 nor 6: its file, with anything after it, reads back to the
+-- joint, and leaves exactly what came after.
+pub reads-back : (joint : Joint) → Held joint → Writable joint → (left : List ℕ) → readJoint (file joint ++ left) ≡ got joint left
 unfolding fieldsOf fileOf
-reads-back joint held count spare left =
+reads-back joint held writable left =
     let rows = joint .face .rows in
     let levers = joint .face .levers in
-    let few : rows ≤ 8 = row-count-most rows count in
-    read-file rows (drop 1 (fieldsOf joint)) (take rows levers) left count refl (length-take-le rows levers (omega (arith, held .eight)))
+    let few : rows ≤ 8 = row-count-most rows (writable .rows) in
+    read-file rows (drop 1 (fieldsOf joint)) (take rows levers) left (writable .rows) refl (length-take-le rows levers (omega (arith, held .eight)))
     (held .fields 0) (λ k. held .fields (suc k)) (take-small rows levers (held .levers))
     ∙ ap (λ (j : Joint). got j left)
-    (ap (jointOf (fieldsOf joint)) (eight-levers rows levers (held .eight) few spare) ∙ joint-fields joint)
+    (ap (jointOf (fieldsOf joint)) (eight-levers rows levers (held .eight) few (writable .spare)) ∙ joint-fields joint)
+
+-- A joint that is refused for neither 3 nor 6, whatever the buffer.
+pub writable : (joint : Joint) (buffer : List ℕ) → (writing joint buffer .refusal ≡ 3 → ⊥) → (writing joint buffer .refusal ≡ 6 → ⊥) → Writable joint
+unfolding writing writingRows
+writable joint buffer not-3 not-6 = go (rowCount (joint .face .rows)) refl (spareZero joint) refl
+  where
+    go : (t : Bool) → rowCount (joint .face .rows) ≡ t → (u : Bool) → spareZero joint ≡ u → Writable joint
+    go true rows true spare = record { rows = rows; spare = spare }
+    go true rows false spare = absurd (not-6 (rw (rows, spare)))
+    go false rows u spare = absurd (not-3 (rw rows))
+
+-- What the buffer holds after `write` reads back to the joint, and leaves what was in the buffer past the file.
+pub written-back : (joint : Joint) (buffer : List ℕ) → Held joint → writing joint buffer .refusal ≡ 0
+    → readJoint (writing joint buffer .buffer) ≡ got joint (drop (writing joint buffer .size) buffer)
+unfolding writing writingRows placed
+written-back joint buffer held none = go (leb (length (file joint)) (length buffer)) refl
+  where
+    taken : Writable joint
+    taken = writable joint buffer (λ e. omega arith) (λ e. omega arith)
+
+    go : (t : Bool) → leb (length (file joint)) (length buffer) ≡ t
+        → readJoint (writing joint buffer .buffer) ≡ got joint (drop (writing joint buffer .size) buffer)
+    go true room = rw (taken .rows, taken .spare, room) (reads-back joint held taken (drop (length (file joint)) buffer))
+    go false short =
+        let five : writing joint buffer .refusal ≡ 5 = rw (taken .rows, taken .spare, short) in
+        absurd (omega arith)
 
 -- ---- what was read, written again
 
 -- What a joint that was read is: the bytes that were read are its file, and it is one that the program can hold and `write` takes.
 pub record Took (bytes : List ℕ) (joint : Joint) (left : List ℕ) : Type 0 where
   pub form : file joint ++ left ≡ bytes
-  pub rows : rowCount (joint .face .rows) ≡ true
-  pub spare : spareZero joint ≡ true
   pub held : Held joint
+  pub writable : Writable joint
 
 module _ (rows : ℕ) (others levers bytes bytes₁ bytes₂ left : List ℕ) (count : rowCount rows ≡ true) (small : rows < 2 ^ 32)
     (first : stored rows ++ bytes₁ ≡ bytes) (taken : TakenAll bytes₁ 28 others bytes₂) (taken′ : TakenAll bytes₂ rows levers left) where
@@ -185,8 +209,11 @@ module _ (rows : ℕ) (others levers bytes bytes₁ bytes₂ left : List ℕ) (c
       let few : rows ≤ 8 = row-count-most rows count in
       record {
         form = rw (same-file, storedAll-append, append-assoc, append-assoc, taken′ .form, taken .form) first;
-        rows = count;
-        spare = rw (drop-at levers (replicate (8 - length levers) 0) rows (taken′ .long)) (zeros-zero (8 - length levers));
+        writable =
+            record {
+              rows = count;
+              spare = rw (drop-at levers (replicate (8 - length levers) 0) rows (taken′ .long)) (zeros-zero (8 - length levers));
+            };
         held =
             record {
               eight = simp (length-append, length-replicate) (omega (arith, taken′ .long));

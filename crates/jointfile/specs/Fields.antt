@@ -1,12 +1,11 @@
--- The fields 1 to 29 of a joint in file order, as numbers: of a joint, and the joint of them. Document 01, 'The joint's fields, in
--- file order', and of field 27 'Read'. Assumes nothing.
-use Prim.Native.Nat.{ℕ, zero, suc, _+_, _-_, _*_, _/_, _%_, _≤_, _<_}
-use mathlib.Core.Path.{_≡_}
-use mathlib.Core.List.{List, [], _∷_, _++_}
-use mathlib.Core.Bool.{Bool, cond, _&&_}
-use lib.Dec.{leb, ltb, eqb}
+-- The fields 1 to 29 in file order (document 01, the list of the joint's fields; of field 27, Read on N): the joint that has them, and
+-- those of a joint. Assumes nothing.
+use Prim.Native.Nat.{ℕ, _+_, _-_, _*_, _/_, _%_}
+use mathlib.Core.List.{List, [], _∷_}
+use mathlib.Core.Bool.{cond}
+use lib.Dec.{eqb}
 use lib.IntN.{ℤ, pos, negsuc}
-use lib.ListN.{length, getD, take, drop, replicate}
+use lib.ListN.{getD}
 use Rattle.joint.specs.declared.Beam.{Beam}
 use Rattle.joint.specs.declared.Bolts.{Bolts}
 use Rattle.joint.specs.declared.Column.{Column}
@@ -16,19 +15,17 @@ use Rattle.joint.specs.declared.Layout.{Layout}
 use Rattle.joint.specs.declared.Loads.{Loads}
 use Rattle.joint.specs.declared.Plate.{Plate}
 use Rattle.joint.specs.declared.Welds.{Welds}
-use Rattle.jointfile.specs.Outcome.{Outcome, got, refused, after}
-use Rattle.jointfile.specs.Number.{readNumber}
 
--- "N is stored as 2N, or −2N − 1 when negative": `negsuc n` is −n − 1
+-- N as a number of the file: twice it, or one less than twice its size when negative. `negsuc n` is the integer -n - 1.
 unfoldable pub storedAxial : ℤ → ℕ
 storedAxial (pos n) = 2 * n
 storedAxial (negsuc n) = 2 * n + 1
 
--- the axial force that a number stands for
+-- the N that a number of the file stands for
 unfoldable pub axialOf : ℕ → ℤ
 axialOf x = cond (eqb (x % 2) 0) (pos (x / 2)) (negsuc (x / 2))
 
--- the fields in file order: field k is the k-th number
+-- field k of a file is its k-th number
 abbrev pub field : ℕ → List ℕ → ℕ
 field k fields = getD fields (k - 1) 0
 

@@ -1,4 +1,7 @@
-// Joint files.
+// Joint files: `read` takes a joint off the front of any bytes, `rest` is what is left after it, and `write` puts a joint's file into a
+// lent buffer. Each goes over the bytes once, from front to back. Two things are done twice, for a reason. `write` measures the
+// numbers before it puts them, since a buffer that is too short stays untouched. And `rest` reads the joint again; a caller that has
+// `read`'s answer need not ask it, since the bytes from the answer's next place on are what is left.
 mod fields;
 mod number;
 mod run;
@@ -33,13 +36,14 @@ pub struct Reading {
     pub next: usize,
 }
 
+// Whether a joint may have so many rows.
 fn is_row_count(rows: u32) -> bool
     ensures { λ r. ⌜ r ≡ rowCount rows ⌝ }
 {
     (1 <= rows) & (rows <= 8)
 }
 
-// The answer of a refusal.
+// What a refusal answers.
 fn no_joint(refusal: u32, end: usize) -> Reading
     ensures { λ r. ⌜ r ≡ answer end (refused refusal) ⌝ }
 {
@@ -90,8 +94,7 @@ pub fn read(bytes: &[u8]) -> Reading
     no_joint(3, bytes.len())
 }
 
-// The part of the bytes after their first joint, empty when it can't be read. It reads the joint again: a caller that has
-// `read`'s answer takes the bytes from its next place on, which are these.
+// The part of the bytes after their first joint, empty when it can't be read.
 pub fn rest(bytes: &[u8]) -> &[u8]
     ensures { λ r. ⌜ now r ≡ restOf (now (bytes .entry)) ⌝ }
 {
@@ -106,8 +109,7 @@ pub enum Written {
     Refused(u32),
 }
 
-// Puts the stored forms of the fields and of the levers into the buffer, if it has room for them. They are measured first, since a
-// buffer that is too short stays untouched.
+// Puts the file into the buffer, if there is room for it. The bounds keep the sizes' sum in range.
 fn put_file(fields: &[u32], levers: &[u32], buffer: &mut [u8]) -> Written
     requires { ⌜ (length (now fields) ≤ 29) × (length (now levers) ≤ 8) ⌝ }
     ensures { λ r. ⌜ writtenTold r (now (buffer .exit)) ≡ placed (storedAll (now (fields .entry)) ++ storedAll (now (levers .entry))) (now (buffer .entry)) ⌝ }
@@ -121,7 +123,7 @@ fn put_file(fields: &[u32], levers: &[u32], buffer: &mut [u8]) -> Written
     Written::Length(size)
 }
 
-// Writes the file of a joint whose row count is right.
+// Writes the file of a joint whose row count is right: 6 is tried before 5.
 fn write_rows(fields: [u32; 29], rows: u32, levers: [u32; 8], buffer: &mut [u8]) -> Written
     requires { ⌜ rows ≤ 8 ⌝ }
     ensures { λ r. ⌜ writtenTold r (now (buffer .exit)) ≡ writingRows fields rows levers (now (buffer .entry)) ⌝ }
@@ -133,7 +135,7 @@ fn write_rows(fields: [u32; 29], rows: u32, levers: [u32; 8], buffer: &mut [u8])
     Written::Refused(6)
 }
 
-// Writes a joint's file to the front of the buffer.
+// Writes a joint's file to the front of the buffer: 3 is tried first.
 pub fn write(joint: Joint, buffer: &mut [u8]) -> Written
     ensures { λ r. ⌜ writtenTold r (now (buffer .exit)) ≡ writing joint (now (buffer .entry)) ⌝ }
 {

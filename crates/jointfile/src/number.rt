@@ -11,13 +11,14 @@ pub enum Number {
     Refused(u32),
 }
 
+// A byte, as wide as the numbers that it is part of.
 fn wide(byte: u8) -> u32
     ensures { λ r. ⌜ r ≡ byte ⌝ }
 {
     byte as u32
 }
 
-// Reads the number that begins at `from`.
+// Reads the number that begins at `from`. `value` is what the groups before `at` make, and `scale` what the next one counts.
 pub fn number_at(bytes: &[u8], from: usize) -> Number
     ensures { λ r. ⌜ NumberRead (now (bytes .entry)) from r ⌝ }
 {

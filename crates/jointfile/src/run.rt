@@ -1,4 +1,4 @@
-// Runs of numbers, one after another.
+// Runs of numbers: read into a list, measured, and written.
 use crate::number::Number;
 use crate::number::number_at;
 use crate::number::put_number;
@@ -73,6 +73,7 @@ pub fn put_numbers(buffer: &mut [u8], from: usize, values: &[u32]) -> usize
     at
 }
 
+// Whether each number is 0.
 pub fn all_zero(values: &[u32]) -> bool
     ensures { λ r. ⌜ r ≡ allZero (now (values .entry)) ⌝ }
 {

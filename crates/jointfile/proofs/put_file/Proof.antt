@@ -1,8 +1,7 @@
 -- `put_file` meets its contract: the size that was measured decides, and the two parts that are put one after the other are the file.
 -- Assumes nothing.
 use native.Mathlib.Omega.{arith}
-use mathlib.Core.Path.{_≡_, sym, _∙_}
-use lib.ListN.{length, length-append}
+use lib.ListN.{length-append}
 use denote.Ref.{now}
 use Rattle.jointfile.specs.Write.{storedAll}
 use Rattle.jointfile.proofs.Sizes.{storedAll-short}

@@ -1,23 +1,17 @@
 -- `read_others` meets its contract: each return is a case of the definition, told by the two runs of numbers. Assumes nothing.
 use Prim.Native.Nat.{ℕ}
-use mathlib.Core.Path.{_≡_, sym, ap, ap₂, _∙_}
+use mathlib.Core.Path.{sym, ap, ap₂, _∙_}
 use mathlib.Core.List.{List, _∷_, append-nil}
 use native.Mathlib.Omega.{arith}
 use lib.Seq.{length-take-le}
-use lib.ListN.{length, replicate}
+use lib.ListN.{replicate}
 use denote.Ref.{now}
 use Rattle.jointfile.specs.Fields.{jointOf}
-use Rattle.jointfile.specs.File.{answer, runRefusal, RunRead, eight}
+use Rattle.jointfile.specs.File.{answer, runRefusal, RunRead}
 use Rattle.jointfile.proofs.Answers.{levers-eight, others-refused, levers-refused, levers-got, answer-got}
 use borrow.Author.Needs.{needs}
 use Rattle.jointfile.proofs.read_others.Statement.{statement}
 use Rattle.jointfile.proofs.read_others.Tie as tie
-use Rattle.jointfile.proofs.read_others.Reads as reads
-use Rattle.jointfile.proofs.read_others.Lts as lts
-use Rattle.jointfile.proofs.fields.joint_of.Reads as joint-of-reads
-use Rattle.jointfile.proofs.no_joint.Reads as no-joint-reads
-use Rattle.jointfile.proofs.run.numbers_at.Reads as numbers-at-reads
-use Rattle.jointfile.proofs.run.run_refusal.Reads as run-refusal-reads
 
 array-write-fields : tie.Need-array-write-fields
 array-write-fields c = search needs

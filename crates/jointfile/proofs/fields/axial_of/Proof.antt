@@ -1,12 +1,12 @@
 -- `fields::axial_of` meets its contract: half the number is below 2 ^ 31, and -1 less it is `negsuc` of it.
 -- Assumes nothing.
 use mathlib.Core.Path.{_≡_, sym, _∙_}
-use Prim.Native.Nat.{_/_, _^_, _<_}
+use Prim.Native.Nat.{_/_}
 use native.Mathlib.Omega.{arith}
 use borrow.Author.Needs.{needs}
-use lib.IntN.{pos, negsuc, _-ℤ_}
+use lib.IntN.{negsuc, _-ℤ_}
 use mir.Syntax.{w32}
-use mir.Val.{toZ, ofZ}
+use mir.Val.{toZ}
 use mir.ValLaws.{toZ-pos, toZ-ofZ}
 use Rattle.jointfile.proofs.Axial.{minus-one-pos, axial-even, axial-odd}
 use Rattle.jointfile.proofs.fields.axial_of.Statement.{statement}

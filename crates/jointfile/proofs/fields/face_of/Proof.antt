@@ -1,6 +1,5 @@
 -- `fields::face_of` meets its contract: beam and loads are what their functions ensure, and the rest is as it stands.
 -- Assumes nothing.
-use lib.ListN.{getD}
 use Rattle.jointfile.specs.Fields.{faceOf}
 use borrow.Author.Needs.{needs}
 use Rattle.jointfile.proofs.fields.face_of.Statement.{statement}

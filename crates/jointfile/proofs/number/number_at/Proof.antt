@@ -1,7 +1,6 @@
 -- `number::number_at` meets its contract. The loop's head is `Head`: a number is the value so far plus the scale times what the groups
 -- from `at` on give; each return is one case of reading a group. The measure is the count of bytes left. Assumes nothing.
 use Prim.Native.Nat.{_-_}
-use mathlib.Core.Path.{_≡_}
 use borrow.Author.Needs.{needs}
 use native.Mathlib.Omega.{arith}
 use lib.ListN.{length}
@@ -9,9 +8,6 @@ use denote.Ref.{now}
 use Rattle.jointfile.proofs.Groups.{Head, Turn, head-none, head-more, answer-cut, answer-over, answer-longer, answer-value, last-fits, more-fits, scale-fits}
 use Rattle.jointfile.proofs.number.number_at.Statement.{statement}
 use Rattle.jointfile.proofs.number.number_at.Tie as tie
-use Rattle.jointfile.proofs.number.number_at.Reads as reads
-use Rattle.jointfile.proofs.number.number_at.Lts as lts
-use Rattle.jointfile.proofs.number.wide.Reads as wide-reads
 
 abbrev Inv-loop : tie.InvT-loop
 Inv-loop bytes from at₀ scale₀ value₀ at scale value = Head bytes from at scale value

@@ -1,9 +1,7 @@
 -- `number::put_number` meets its contract: the loop's head is `PutHead`, and the last group ends it. The measure is what is left.
 -- Assumes nothing.
-use Prim.Native.Nat.{_<_}
-use mathlib.Core.Path.{_≡_, _∙_}
 use native.Mathlib.Omega.{arith}
-use lib.ListN.{length, length-set}
+use lib.ListN.{length-set}
 use Rattle.jointfile.proofs.Puts.{PutHead, put-none, put-room, put-more, put-last}
 use Rattle.jointfile.proofs.number.put_number.Statement.{statement}
 use Rattle.jointfile.proofs.number.put_number.Tie as tie

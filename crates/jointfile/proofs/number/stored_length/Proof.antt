@@ -1,5 +1,4 @@
 -- `number::stored_length` meets its contract: the sum of tests is the law's. Assumes nothing.
-use mathlib.Core.Path.{_≡_}
 use native.Mathlib.Omega.{arith}
 use lib.Dec.{leb}
 use Rattle.jointfile.proofs.Sizes.{stored-length, bit-small}

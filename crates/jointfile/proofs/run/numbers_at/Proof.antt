@@ -1,7 +1,7 @@
 -- `run::numbers_at` meets its contract: the loop's head is `RunHead`, a number carries it on, and anything else is the run's refusal.
 -- The measure is the count of numbers left. Assumes nothing.
 use Prim.Native.Nat.{_-_}
-use mathlib.Core.Path.{_≡_, ap, _∙_, subst}
+use mathlib.Core.Path.{ap, _∙_}
 use native.Mathlib.Omega.{arith}
 use borrow.Author.Needs.{needs}
 use lib.ListN.{length}

@@ -1,10 +1,10 @@
 -- `run::stored_size` meets its contract: the size so far and that of the numbers left make the whole. The measure is the count of
 -- numbers left. Assumes nothing.
 use Prim.Native.Nat.{_+_, _-_}
-use mathlib.Core.Path.{_≡_, refl, ap, _∙_}
+use mathlib.Core.Path.{_≡_, ap}
 use native.Mathlib.Omega.{arith}
 use borrow.Author.Needs.{needs}
-use lib.ListN.{length, getD, drop}
+use lib.ListN.{length, drop}
 use denote.Ref.{now}
 use Rattle.jointfile.specs.Write.{storedAll}
 use Rattle.jointfile.proofs.Puts.{size-next, stored-end}
