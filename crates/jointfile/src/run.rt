@@ -64,11 +64,11 @@ pub fn put_numbers(buffer: &mut [u8], from: usize, values: &[u32]) -> usize
     ensures { λ r. ⌜ Put (now (buffer .entry)) from (storedAll (now (values .entry))) (now (buffer .exit)) r ⌝ }
 {
     let mut at = from;
-    let mut i = 0;
-    while i < values.len() {
-        let next = put_number(buffer, at, values[i]);
+    let mut done = 0;
+    while done < values.len() {
+        let next = put_number(buffer, at, values[done]);
         at = next;
-        i += 1;
+        done += 1;
     }
     at
 }

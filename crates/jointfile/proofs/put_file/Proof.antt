@@ -1,5 +1,7 @@
 -- `put_file` meets its contract: the size that was measured decides, and the two parts that are put one after the other are the file.
 -- Assumes nothing.
+use Prim.Native.Nat.{ℕ, _+_}
+use mathlib.Core.Path.{ap₂, _∙_}
 use native.Mathlib.Omega.{arith}
 use lib.ListN.{length-append}
 use denote.Ref.{now}
@@ -39,8 +41,9 @@ returns-2 : tie.Need-returns-2
 returns-2 c =
     let first = c .before .before .before .before .before .before in
     let measured = first .before .before .before in
-    rw (measured .before .stored-size .ensures, measured .stored-size2 .ensures)
-    (placed-parts (first .put-numbers .ensures) (c .before .before .put-numbers2 .ensures) (omega (arith, measured)))
+    ap₂ (λ (a b : ℕ). record { refusal = 0; size = a + b; buffer = c .before .before .put-numbers2 .last .0 })
+    (measured .before .stored-size .ensures) (measured .stored-size2 .ensures)
+    ∙ placed-parts (first .put-numbers .ensures) (c .before .before .put-numbers2 .ensures) (omega (arith, measured))
 
 pub put-file-spec : {M : Type 1} → statement M
 put-file-spec =

@@ -9,10 +9,10 @@ use Rattle.jointfile.proofs.run.put_numbers.Statement.{statement}
 use Rattle.jointfile.proofs.run.put_numbers.Tie as tie
 
 abbrev Inv-loop : tie.InvT-loop
-Inv-loop buffer₀ from values at₀ i₀ buffer at i = PutsHead buffer₀ from values buffer at i
+Inv-loop buffer₀ from values at₀ done₀ buffer at done = PutsHead buffer₀ from values buffer at done
 
 abbrev μ-loop : tie.MeasureT-loop
-μ-loop buffer₀ from values at₀ i₀ buffer at i = length values - i
+μ-loop buffer₀ from values at₀ done₀ buffer at done = length values - done
 
 loop-holds : tie.Need-loop-holds Inv-loop μ-loop
 loop-holds c = puts-none _ _ _
@@ -26,8 +26,8 @@ shared-slice-read-put-number c = search needs
 put-number-requires : tie.Need-put-number-requires Inv-loop μ-loop
 put-number-requires c κs = puts-room (c .before .before .before .loop .inv) (c .before .before .loop-test .taken) (c .before .before .before .before .before .before .pre)
 
-add-i : tie.Need-add-i Inv-loop μ-loop
-add-i c = omega arith
+add-done : tie.Need-add-done Inv-loop μ-loop
+add-done c = omega arith
 
 loop-less : tie.Need-loop-less Inv-loop μ-loop
 loop-less c = omega arith
@@ -53,7 +53,7 @@ put-numbers-spec =
     mul-put-number
     shared-slice-read-put-number
     put-number-requires
-    add-i
+    add-done
     loop-less
     loop-again
     same-length
