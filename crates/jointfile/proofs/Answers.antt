@@ -1,0 +1,100 @@
+-- Reading a joint, case by case: what the runs of numbers that the code reads say of the definition, for each place where it stops.
+-- Assumes nothing.
+use Prim.Native.Nat.{ℕ, zero, suc, _-_, _≤_}
+use mathlib.Core.Path.{_≡_, sym}
+use mathlib.Core.List.{List, _∷_, _++_}
+use mathlib.Core.Bool.{true, false, and-eq-true-iff}
+use native.Mathlib.Omega.{arith}
+use native.Mathlib.Nat.{sub-zero, zero-sub}
+use borrow.Author.Tests.{leb-true}
+use lib.Dec.{leb}
+use lib.ListN.{length, take, drop, replicate, length-drop}
+use Rattle.joint.specs.declared.Joint.{Joint}
+use Rattle.jointfile.specs.Outcome.{got, refused}
+use Rattle.jointfile.specs.Number.{NumberRead}
+use Rattle.jointfile.specs.Fields.{jointOf, fieldsOf}
+use Rattle.jointfile.specs.File.{rowCount, eight, readOthers, readJoint, RunRead, answer}
+use Rattle.jointfile.specs.Write.{storedAll, fileOf, allZero, turnedDown, placed, writingRows, writing}
+use Rattle.jointfile.proofs.Sizes.{storedAll-append}
+use Rattle.jointfile.specs.declared.number.Number.the-variants.{Value, Refused as NumberRefused}
+use Rattle.jointfile.specs.declared.run.Run.the-variants.{Next, Refused}
+
+-- ---- the number of rows
+
+pub row-count-most : (rows : ℕ) → rowCount rows ≡ true → rows ≤ 8
+unfolding rowCount
+row-count-most rows e = leb-true rows 8 (and-eq-true-iff (leb 1 rows) (leb rows 8) .0 e .1)
+
+-- ---- the levers in an array of eight
+
+drop-replicate : (k n : ℕ) → drop k (replicate n (zero)) ≡ replicate (n - k) zero
+drop-replicate zero n = rw sub-zero
+drop-replicate (suc k) zero = rw zero-sub
+drop-replicate (suc k) (suc n) =
+    let less : suc n - suc k ≡ n - k = omega arith in
+    rw less (drop-replicate k n)
+
+pub levers-eight : (rows : ℕ) (levers : List ℕ) → length levers ≡ rows → levers ++ drop rows (replicate 8 0) ≡ eight levers
+levers-eight rows levers e = rw (e, drop-replicate rows 8)
+
+-- ---- what follows field 1
+
+module _ {bytes : List ℕ} {from : ℕ} {others : List ℕ} (rows : ℕ) where
+  pub others-refused : {r : ℕ} → RunRead bytes from 28 others (Refused r) → readOthers rows (drop from bytes) ≡ refused r
+  unfolding readOthers
+  others-refused read = rw (sym (read .told))
+
+  module _ {at : ℕ} {levers : List ℕ} (read : RunRead bytes from 28 others (Next at)) where
+    pub levers-refused : {r : ℕ} → RunRead bytes at rows levers (Refused r) → readOthers rows (drop from bytes) ≡ refused r
+    unfolding readOthers
+    levers-refused run = rw (sym (read .told), sym (run .told))
+
+    pub levers-got : {next : ℕ} → RunRead bytes at rows levers (Next next)
+        → readOthers rows (drop from bytes) ≡ got (jointOf (rows ∷ others) (eight levers)) (drop next bytes)
+    unfolding readOthers
+    levers-got run = rw (sym (read .told), sym (run .told))
+
+-- the place after the joint, of the bytes left
+pub answer-got : (bytes : List ℕ) (joint : Joint) (next : ℕ) → next ≤ length bytes
+    → answer (length bytes) (got joint (drop next bytes)) ≡ record { refusal = 0; joint = joint; next = next }
+answer-got bytes joint next within =
+    let place : length bytes - length (drop next bytes) ≡ next = omega (arith, length-drop next bytes) in
+    rw place
+
+-- ---- field 1
+
+module _ {bytes : List ℕ} where
+  pub first-refused : {r : ℕ} → NumberRead bytes 0 (NumberRefused r) → readJoint bytes ≡ refused r
+  unfolding readJoint
+  first-refused read = rw (sym (read .told))
+
+  module _ {rows next : ℕ} (read : NumberRead bytes 0 (Value rows next)) where
+    pub rows-refused : rowCount rows ≡ false → readJoint bytes ≡ refused 3
+    unfolding readJoint
+    rows-refused e = rw (sym (read .told), e)
+
+    pub rows-taken : rowCount rows ≡ true → readJoint bytes ≡ readOthers rows (drop next bytes)
+    unfolding readJoint
+    rows-taken e = rw (sym (read .told), e)
+
+-- ---- writing
+
+module _ (fields : List ℕ) (rows : ℕ) (levers buffer : List ℕ) where
+  pub writing-spare : allZero (drop rows levers) ≡ false → turnedDown buffer 6 ≡ writingRows fields rows levers buffer
+  unfolding writingRows
+  writing-spare e = rw e
+
+  pub writing-file : allZero (drop rows levers) ≡ true
+      → placed (storedAll fields ++ storedAll (take rows levers)) buffer ≡ writingRows fields rows levers buffer
+  unfolding writingRows fileOf
+  writing-file e = rw (e, storedAll-append)
+
+module _ (joint : Joint) (buffer : List ℕ) where
+  pub writing-refused : rowCount (joint .face .rows) ≡ false → turnedDown buffer 3 ≡ writing joint buffer
+  unfolding writing
+  writing-refused e = rw e
+
+  pub writing-rows : rowCount (joint .face .rows) ≡ true
+      → writingRows (fieldsOf joint) (joint .face .rows) (joint .face .levers) buffer ≡ writing joint buffer
+  unfolding writing
+  writing-rows e = rw e

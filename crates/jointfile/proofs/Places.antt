@@ -1,0 +1,107 @@
+-- What a caller of `read` leans on. The place that it answers lies in the bytes, and what follows it is what is left of them, since what
+-- was read is written to the same bytes; a joint takes some; and the refusal is 0 just where a joint was read. Assumes nothing.
+use Prim.Native.Nat.{ℕ, zero, suc, _-_, _≤_, _<_}
+use mathlib.Core.Path.{_≡_, refl}
+use mathlib.Core.List.{List, [], _∷_}
+use mathlib.Core.Bool.{Bool, true, false, cond, _&&_}
+use native.Mathlib.Omega.{arith}
+use lib.Dec.{leb, ltb, eqb}
+use lib.ListN.{length, drop, length-append}
+use lib.Seq.{drop-length, drop-at}
+use Rattle.joint.specs.declared.Joint.{Joint}
+use Rattle.jointfile.specs.Outcome.{Outcome, got, refused, after}
+use Rattle.jointfile.specs.Number.{above, readGroups, readNumber, Bytes}
+use Rattle.jointfile.specs.Fields.{fieldsOf}
+use Rattle.jointfile.specs.File.{rowCount, readNumbers, readOthers, readJoint, answer, reading, leftOf, restOf}
+use Rattle.jointfile.specs.Write.{storedAll, fileOf, file}
+use Rattle.jointfile.proofs.Sizes.{groups-positive}
+use Rattle.jointfile.proofs.RoundTrip.{writes-again}
+
+pub next-within : (bytes : List ℕ) → reading bytes .next ≤ length bytes
+next-within bytes = go (readJoint bytes)
+  where
+    go : (outcome : Outcome Joint) → answer (length bytes) outcome .next ≤ length bytes
+    go (got joint rest) = omega arith
+    go (refused r) = omega arith
+
+pub next-left : (bytes : List ℕ) → Bytes bytes → drop (reading bytes .next) bytes ≡ restOf bytes
+next-left bytes all = go (readJoint bytes) refl
+  where
+    go : (outcome : Outcome Joint) → readJoint bytes ≡ outcome → drop (answer (length bytes) outcome .next) bytes ≡ leftOf outcome
+    go (got joint rest) e =
+        let form = writes-again bytes joint rest all e .form in
+        let place : length (file joint) ≡ length bytes - length rest = rw (← form, length-append) (omega arith) in
+        rw (← place, ← form) (drop-at (file joint) rest (length (file joint)) refl)
+    go (refused r) e = drop-length bytes
+
+-- ---- a joint takes at least a byte
+
+file-positive : (joint : Joint) → 0 < length (file joint)
+unfolding fileOf fieldsOf storedAll
+file-positive joint = rw length-append (omega (arith, groups-positive 4 (joint .face .rows)))
+
+pub left-shorter : (bytes : List ℕ) (joint : Joint) (rest : List ℕ) → Bytes bytes → readJoint bytes ≡ got joint rest → length rest < length bytes
+left-shorter bytes joint rest all e =
+    let form = writes-again bytes joint rest all e .form in
+    rw (← form, length-append) (omega (arith, file-positive joint))
+
+-- ---- no refusal has the number 0
+
+abbrev Numbered : {A : Type 0} → Outcome A → Type 0
+Numbered (got a left) = Unit {0}
+Numbered (refused r) = 0 < r
+
+numbered-cond : {A : Type 0} (t : Bool) (one other : Outcome A) → Numbered one → Numbered other → Numbered (cond t one other)
+numbered-cond true one other told told′ = told
+numbered-cond false one other told told′ = told′
+
+numbered-after : {A B : Type 0} (outcome : Outcome A) (next : A → List ℕ → Outcome B) → Numbered outcome
+    → ((a : A) (rest : List ℕ) → Numbered (next a rest)) → Numbered (after outcome next)
+numbered-after (got a rest) next told tells = tells a rest
+numbered-after (refused r) next told tells = told
+
+numbered-above : (scale low : ℕ) (outcome : Outcome ℕ) → Numbered outcome → Numbered (above scale low outcome)
+numbered-above scale low (got x rest) told = tt
+numbered-above scale low (refused r) told = told
+
+numbered-number : (before : ℕ) (bytes : List ℕ) → Numbered (readGroups before bytes)
+unfolding readGroups
+numbered-number before [] = omega arith
+numbered-number before (byte ∷ bytes) =
+    let two : Numbered {A = ℕ} (refused 2) = omega arith in
+    numbered-cond (leb 4 before && ltb 15 byte) _ _ two
+    (numbered-cond (ltb byte 128) _ _ (numbered-cond (ltb 0 before && eqb byte 0) _ _ two tt)
+    (numbered-above 128 (byte - 128) (readGroups (suc before) bytes) (numbered-number (suc before) bytes)))
+
+numbered-numbers : (count : ℕ) (bytes : List ℕ) → Numbered (readNumbers count bytes)
+unfolding readNumbers
+numbered-numbers zero bytes = tt
+numbered-numbers (suc count) bytes =
+    numbered-after (readNumber bytes) _ (numbered-number 0 bytes)
+    (λ x rest. numbered-after (readNumbers count rest) _ (numbered-numbers count rest) (λ xs end. tt))
+
+numbered-joint : (bytes : List ℕ) → Numbered (readJoint bytes)
+unfolding readJoint readOthers
+numbered-joint bytes =
+    numbered-after (readNumber bytes) _ (numbered-number 0 bytes)
+    (λ rows rest. numbered-cond (rowCount rows) _ _
+    (numbered-after (readNumbers 28 rest) _ (numbered-numbers 28 rest)
+    (λ others more. numbered-after (readNumbers rows more) _ (numbered-numbers rows more) (λ levers end. tt)))
+    (omega arith))
+
+-- Refusal 0: a joint was read, and it is the one that is answered.
+pub read-taken : (bytes : List ℕ) → reading bytes .refusal ≡ 0 → readJoint bytes ≡ got (reading bytes .joint) (restOf bytes)
+read-taken bytes = go (readJoint bytes) (numbered-joint bytes)
+  where
+    go : (outcome : Outcome Joint) → Numbered outcome → answer (length bytes) outcome .refusal ≡ 0
+        → outcome ≡ got (answer (length bytes) outcome .joint) (leftOf outcome)
+    go (got joint rest) told e = refl
+    go (refused r) told e = absurd (omega arith)
+
+-- Any other: that is why none was.
+pub read-refused : (bytes : List ℕ) → (reading bytes .refusal ≡ 0 → ⊥) → readJoint bytes ≡ refused (reading bytes .refusal)
+read-refused bytes = go (readJoint bytes)
+  where
+    go : (outcome : Outcome Joint) → (answer (length bytes) outcome .refusal ≡ 0 → ⊥) → outcome ≡ refused (answer (length bytes) outcome .refusal)
+    go (got joint rest) some = absurd (some refl)
+    go (refused r) some = refl

@@ -1,0 +1,5 @@
+pub mod Outcome
+pub mod Number
+pub mod Fields
+pub mod File
+pub mod Write

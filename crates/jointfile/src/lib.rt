@@ -1,0 +1,150 @@
+// Joint files: `read` takes a joint off the front of any bytes, `rest` is what is left after it, and `write` puts a joint's file into a
+// lent buffer. Each goes over the bytes once, from front to back. Two things are done twice, for a reason. `write` measures the
+// numbers before it puts them, since a buffer that is too short stays untouched. And `rest` reads the joint again; a caller that has
+// `read`'s answer need not ask it, since the bytes from the answer's next place on are what is left.
+mod fields;
+mod number;
+mod run;
+
+use fields::fields_of;
+use fields::joint_of;
+use joint::Joint;
+use number::Number;
+use number::number_at;
+use number::refusal_of;
+use run::Run;
+use run::all_zero;
+use run::numbers_at;
+use run::put_numbers;
+use run::run_refusal;
+use run::stored_size;
+ghost use Prim.Native.Nat.{_≤_};
+ghost use mathlib.Core.Path.{_≡_};
+ghost use mathlib.Core.List.{_++_};
+ghost use lib.ListN.{length, drop};
+ghost use Rattle.jointfile.specs.Outcome.{refused};
+ghost use Rattle.jointfile.specs.File.{rowCount, readOthers, answer, reading, restOf};
+ghost use Rattle.jointfile.specs.Write.{storedAll, placed, writingRows, writing, writtenTold};
+
+// What `read` answers.
+pub struct Reading {
+    // document 01's refusal number, or 0
+    pub refusal: u32,
+    // the joint, or one whose every field is 0 in a refusal
+    pub joint: Joint,
+    // the place after the joint, or the end of the bytes in a refusal
+    pub next: usize,
+}
+
+// Whether a joint may have so many rows.
+fn is_row_count(rows: u32) -> bool
+    ensures { λ r. ⌜ r ≡ rowCount rows ⌝ }
+{
+    (1 <= rows) & (rows <= 8)
+}
+
+// What a refusal answers.
+fn no_joint(refusal: u32, end: usize) -> Reading
+    ensures { λ r. ⌜ r ≡ answer end (refused refusal) ⌝ }
+{
+    let fields = [0u32; 29];
+    let levers = [0u32; 8];
+    Reading {
+        refusal,
+        joint: joint_of(fields, levers),
+        next: end,
+    }
+}
+
+// Reads what follows field 1.
+fn read_others(bytes: &[u8], rows: u32, from: usize) -> Reading
+    requires { ⌜ (rows ≤ 8) × (from ≤ length (now bytes)) ⌝ }
+    ensures { λ r. ⌜ r ≡ answer (length (now (bytes .entry))) (readOthers rows (drop from (now (bytes .entry)))) ⌝ }
+{
+    let mut fields = [0u32; 29];
+    fields[0] = rows;
+    let others = numbers_at(bytes, from, &mut fields[1..]);
+    let Run::Next(after) = others else {
+        return no_joint(run_refusal(others), bytes.len());
+    };
+    let mut levers = [0u32; 8];
+    let count = rows as usize;
+    let last = numbers_at(bytes, after, &mut levers[..count]);
+    let Run::Next(next) = last else {
+        return no_joint(run_refusal(last), bytes.len());
+    };
+    Reading {
+        refusal: 0,
+        joint: joint_of(fields, levers),
+        next,
+    }
+}
+
+// The joint that the bytes begin with. Refusal 3 is told as soon as field 1 is read.
+pub fn read(bytes: &[u8]) -> Reading
+    ensures { λ r. ⌜ r ≡ reading (now (bytes .entry)) ⌝ }
+{
+    let first = number_at(bytes, 0);
+    let Number::Value { value, next } = first else {
+        return no_joint(refusal_of(first), bytes.len());
+    };
+    if is_row_count(value) {
+        return read_others(bytes, value, next);
+    }
+    no_joint(3, bytes.len())
+}
+
+// The part of the bytes after their first joint, empty when it can't be read.
+pub fn rest(bytes: &[u8]) -> &[u8]
+    ensures { λ r. ⌜ now r ≡ restOf (now (bytes .entry)) ⌝ }
+{
+    let reading = read(bytes);
+    let next = reading.next;
+    &bytes[next..]
+}
+
+// What `write` answers: the file's length, or document 01's refusal number.
+pub enum Written {
+    Length(usize),
+    Refused(u32),
+}
+
+// Puts the file into the buffer, if there is room for it. The bounds keep the sizes' sum in range.
+fn put_file(fields: &[u32], levers: &[u32], buffer: &mut [u8]) -> Written
+    requires { ⌜ (length (now fields) ≤ 29) × (length (now levers) ≤ 8) ⌝ }
+    ensures { λ r. ⌜ writtenTold r (now (buffer .exit)) ≡ placed (storedAll (now (fields .entry)) ++ storedAll (now (levers .entry))) (now (buffer .entry)) ⌝ }
+{
+    let size = stored_size(fields) + stored_size(levers);
+    if buffer.len() < size {
+        return Written::Refused(5);
+    }
+    let at = put_numbers(buffer, 0, fields);
+    put_numbers(buffer, at, levers);
+    Written::Length(size)
+}
+
+// Writes the file of a joint whose row count is right: 6 is tried before 5.
+fn write_rows(fields: [u32; 29], rows: u32, levers: [u32; 8], buffer: &mut [u8]) -> Written
+    requires { ⌜ rows ≤ 8 ⌝ }
+    ensures { λ r. ⌜ writtenTold r (now (buffer .exit)) ≡ writingRows fields rows levers (now (buffer .entry)) ⌝ }
+{
+    let count = rows as usize;
+    if all_zero(&levers[count..]) {
+        return put_file(&fields, &levers[..count], buffer);
+    }
+    Written::Refused(6)
+}
+
+// Writes a joint's file to the front of the buffer: 3 is tried first.
+pub fn write(joint: Joint, buffer: &mut [u8]) -> Written
+    ensures { λ r. ⌜ writtenTold r (now (buffer .exit)) ≡ writing joint (now (buffer .entry)) ⌝ }
+{
+    let face = joint.face;
+    let rows = face.rows;
+    let levers = face.levers;
+    if is_row_count(rows) {
+        let fields = fields_of(joint);
+        return write_rows(fields, rows, levers, buffer);
+    }
+    Written::Refused(3)
+}
