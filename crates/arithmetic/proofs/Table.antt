@@ -9,12 +9,7 @@ use native.Mathlib.Nat.{add-zero, zero-add, add-suc, suc-add, le-of-suc-le-suc, 
 use lib.Dec.{T, eqb, eqb→eq}
 use lib.ListN.{length, getD}
 use mir.Facts.{and-yes, or-yes}
-use Rattle.arithmetic.specs.Table.{any, find, oneOf}
-
--- the test passes at each entry and its place, counted from i
-abbrev pub every : (ℕ → ℕ → Bool) → ℕ → List ℕ → Bool
-every f i [] = true
-every f i (x ∷ xs) = f i x && every f (suc i) xs
+use Rattle.arithmetic.specs.Table.{every, any, find, oneOf}
 
 from : (f : ℕ → ℕ → Bool) (xs : List ℕ) (i : ℕ) → T (every f i xs) → (k : ℕ) → k < length xs → T (f (i + k) (getD xs k 0))
 from f [] i t k h = absurd (not-suc-le-zero h)

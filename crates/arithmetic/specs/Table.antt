@@ -1,7 +1,7 @@
 -- Small tables as the papers print them: a row of keys, and under it a row of values. A key is found by a test, which says whether the
 -- table goes by equal keys or by bands. Assumes nothing.
-use Prim.Native.Nat.{ℕ}
-use mathlib.Core.Bool.{Bool, false, cond, _||_}
+use Prim.Native.Nat.{ℕ, suc}
+use mathlib.Core.Bool.{Bool, true, false, cond, _||_, _&&_}
 use mathlib.Core.List.{List, [], _∷_}
 use lib.Dec.{eqb, leb}
 
@@ -27,3 +27,8 @@ lookup keys values x = find (eqb x) keys values
 -- a table by bands, each up to its key and the key included
 abbrev pub upTo : List ℕ → List ℕ → ℕ → ℕ
 upTo keys values x = find (leb x) keys values
+
+-- the test passes at each entry and its place, counted from i
+abbrev pub every : (ℕ → ℕ → Bool) → ℕ → List ℕ → Bool
+every f i [] = true
+every f i (x ∷ xs) = f i x && every f (suc i) xs

@@ -9,7 +9,8 @@ use native.Mathlib.Omega.{arith}
 use lib.Dec.{T, leb, ltb, leb→le, ltb→lt}
 use lib.ListN.{length, getD}
 use mir.Facts.{and-yes}
-use Rattle.arithmetic.proofs.Table.{every, at}
+use Rattle.arithmetic.specs.Table.{every}
+use Rattle.arithmetic.proofs.Table.{at}
 use Rattle.compression.specs.Root.{BitLength, Guess}
 
 -- the guess at place k is for numbers of k + 1 bits

@@ -15,7 +15,7 @@ cast-result c = search needs
 weld-capacity-requires : tie.Need-weld-capacity-requires
 weld-capacity-requires c κs =
     let s = c .before in
-    (loosen (0 to 250) (s .pre .0 .welds .web) tt, s .pre .0 .welds .length, rw (s .pre .1) (weld-range (s .args .face .beam .grade) (s .args .face .plate .grade)))
+    (loosen (0 to 250) (s .pre .0 .welds .web) tt, s .pre .0 .welds .web-length, rw (s .pre .1) (weld-range (s .args .face .beam .grade) (s .args .face .plate .grade)))
 
 returns : tie.Need-returns
 unfolding webWeldPasses

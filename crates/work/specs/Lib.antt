@@ -1,0 +1,4 @@
+pub mod Refusals
+pub mod Joint
+pub mod Work
+pub mod Demand

@@ -1,0 +1,50 @@
+-- Work's refusals after 10, each as a test (document 01, 'Work'). Rows count from 0.
+-- Assumes nothing.
+use Prim.Native.Nat.{ℕ, _-_, _*_, _≤_}
+use mathlib.Core.Bool.{Bool, cond, _&&_, _||_}
+use mathlib.Core.List.{List}
+use lib.Dec.{ltb, eqb}
+use lib.ListN.{getD, take}
+use lib.IntN.{pos}
+use lib.Signed.{ltZ}
+use Rattle.arithmetic.specs.Range.{Within, _to_}
+use Rattle.arithmetic.specs.Table.{every}
+use Rattle.joint.specs.declared.Face.{Face}
+use Rattle.joint.specs.declared.Loads.{Loads}
+use Rattle.tension.specs.declared.Spacing.{Spacing}
+
+-- 11 'a lever not below the one above it' is what makes it false
+abbrev pub belowAbove : (levers : List ℕ) (row lever : ℕ) → Bool
+belowAbove levers row lever = eqb row 0 || ltb lever (getD levers (row - 1) 0)
+
+unfoldable pub leversFall : Face → Bool
+leversFall face = every (belowAbove (face .levers)) 0 (take (face .rows) (face .levers))
+
+-- 12 'a row out of place: extended row 1 needs 2h > 2Db − Tb, every other row 2h < 2Db − 3Tb'
+abbrev pub inPlace : Face → (row lever : ℕ) → Bool
+inPlace face row lever =
+    cond (ltb row (face .extended))
+    (ltb (2 * face .beam .depth - face .beam .flange) (2 * lever))
+    (ltb (2 * lever) (2 * face .beam .depth - 3 * face .beam .flange))
+
+unfoldable pub rowsInPlace : Face → Bool
+rowsInPlace face = every (inPlace face) 0 (take (face .rows) (face .levers))
+
+-- 13 'column m, plate m or (if extended) mx under 500, or either e under 1000'
+unfoldable pub tooTight : (extended : ℕ) → Spacing → Bool
+tooTight extended spacing =
+    ltb (spacing .column) 500
+    || (ltb (spacing .plate) 500
+    || ((eqb extended 1 && ltb (spacing .extension) 500)
+    || (ltb (spacing .«column_edge») 1000 || ltb (spacing .«plate_edge») 1000)))
+
+-- 15 'N above the governing compression force'
+unfoldable pub overCompressed : Loads → (force : ℕ) → Bool
+overCompressed loads force = ltZ (pos force) (loads .axial)
+
+-- What finding the rows in place relies on: each of it from fields in range.
+pub record PlacesInRange (face : Face) : Type 0 where
+  pub rows : face .rows ≤ 8
+  pub depth : Within (1000 to 15000) (face .beam .depth)
+  pub flange : Within (40 to 500) (face .beam .flange)
+  pub lever : (row : ℕ) → getD (face .levers) row 0 ≤ 20000

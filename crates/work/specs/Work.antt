@@ -1,0 +1,86 @@
+-- Working a joint (document 01, 'Work'): the refusals in their order, and else the whole result.
+-- Assumes nothing.
+use Prim.Native.Nat.{ℕ}
+use mathlib.Core.Bool.{Bool, false, cond, not}
+use lib.ListN.{replicate}
+use lib.IntN.{pos, natAbs, _-ℤ_}
+use Rattle.joint.specs.Fields.{fieldCheck}
+use Rattle.joint.specs.declared.Joint.{Joint}
+use Rattle.joint.specs.declared.Loads.{Loads}
+use Rattle.joint.specs.declared.FieldCheck.{FieldCheck}
+use Rattle.joint.specs.declared.FieldCheck.the-variants.{AllInRange, Outside}
+use Rattle.sharing.specs.Groups.{total}
+use Rattle.sharing.specs.Sharing.{newtonMetres}
+use Rattle.allocation.specs.Allocation.{eightPlaces}
+use Rattle.strength.specs.Bolt.{boltStrengths}
+use Rattle.strength.specs.Thickness.{bothTooThick}
+use Rattle.tension.specs.Spacing.{spacingOf}
+use Rattle.compression.specs.Compression.{forceOf}
+use Rattle.compression.specs.declared.CompressionCheck.the-variants.{Flange}
+use Rattle.work.specs.Refusals.{leversFall, rowsInPlace, tooTight, overCompressed}
+use Rattle.work.specs.Joint.{steelOf, governingOf, capOf, forcesOf, momentOf, verdictsOf}
+use Rattle.work.specs.declared.Cap.{Cap}
+use Rattle.work.specs.declared.Cap.the-variants.{Newtons, Exceeded}
+use Rattle.outcome.specs.declared.Outcome.{Outcome}
+use Rattle.outcome.specs.declared.Verdicts.{Verdicts}
+
+-- 'In a refusal forces, sum, newton metres, cap and governing force are 0, the check named is F, verdicts are no, and the field
+-- number is 0 but for 10.'
+abbrev pub refusedBy : (number field : ℕ) → Outcome
+refusedBy number field = record
+  { refusal = number
+  ; field = field
+  ; forces = replicate 8 0
+  ; sum = 0
+  ; «newton_metres» = 0
+  ; cap = 0
+  ; check = Flange 0
+  ; verdicts = record { bending = false; bolts = false; «flange_weld» = false; «web_weld» = false }
+  }
+
+-- The whole result of a joint that isn't refused.
+unfoldable pub resultOf : Joint → Outcome
+resultOf joint =
+    let forces = forcesOf joint in
+    record
+      { refusal = 0
+      ; field = 0
+      ; forces = eightPlaces forces
+      ; sum = total forces
+      ; «newton_metres» = newtonMetres (momentOf joint forces)
+      ; cap = capOf joint
+      ; check = governingOf joint
+      ; verdicts = verdictsOf joint forces
+      }
+
+-- The tension cap where N isn't above the governing force, by cases: what each case of the enum says.
+unfoldable pub capCase : Loads → (force : ℕ) → Cap
+capCase loads force =
+    cond (overCompressed loads force) Exceeded (Newtons (natAbs (pos force -ℤ loads .axial)))
+
+-- 14 and 15
+unfoldable pub fromThickness : Joint → Outcome
+unfolding resultOf
+fromThickness joint =
+    cond (bothTooThick (joint .column) (joint .face .plate) (joint .bolts) (steelOf joint) (boltStrengths (joint .bolts))) (refusedBy 14 0)
+    (cond (overCompressed (joint .face .loads) (forceOf (governingOf joint))) (refusedBy 15 0)
+    (resultOf joint))
+
+-- 11, 12 and 13
+unfoldable pub fromLevers : Joint → Outcome
+unfolding fromThickness
+fromLevers joint =
+    cond (not (leversFall (joint .face))) (refusedBy 11 0)
+    (cond (not (rowsInPlace (joint .face))) (refusedBy 12 0)
+    (cond (tooTight (joint .face .extended) (spacingOf (joint .column) (joint .face))) (refusedBy 13 0)
+    (fromThickness joint)))
+
+-- 10 'with the first such field's number'
+abbrev pub afterFields : FieldCheck → Outcome → Outcome
+afterFields AllInRange outcome = outcome
+afterFields (Outside field) outcome = refusedBy 10 field
+
+-- 'Tried in this order'
+unfoldable pub worked : Joint → Outcome
+unfolding fromLevers
+worked joint = afterFields (fieldCheck joint) (fromLevers joint)
