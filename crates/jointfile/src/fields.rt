@@ -1,4 +1,5 @@
-// A joint's fields in file order: field k of document 01 stands at place k - 1. Private as `number` is.
+// A joint's fields in file order: field k of document 01 stands at place k - 1. The module is private: what is `pub` here is so for
+// this crate alone.
 use joint::Beam;
 use joint::Bolts;
 use joint::Column;

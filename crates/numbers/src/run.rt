@@ -1,4 +1,4 @@
-// Runs of numbers: read into a list, measured, and written. Private as `number` is.
+// Runs of numbers: read into a list, measured, and written.
 use crate::number::Number;
 use crate::number::number_at;
 use crate::number::put_number;
@@ -7,8 +7,7 @@ use crate::number::stored_length;
 ghost use Prim.Native.Nat.{_+_, _≤_};
 ghost use mathlib.Core.Path.{_≡_};
 ghost use lib.ListN.{length};
-ghost use Rattle.jointfile.specs.File.{RunRead, runRefusal};
-ghost use Rattle.jointfile.specs.Write.{allZero, storedAll, Put};
+ghost use Rattle.numbers.specs.Run.{RunRead, runRefusal, allZero, storedAll, Put};
 
 // What reading a run answers: the place after its last number, or the refusal of the first that can't be read.
 pub enum Run {
@@ -18,7 +17,6 @@ pub enum Run {
 
 // Fills `values` with the numbers that begin at `from`.
 pub fn numbers_at(bytes: &[u8], from: usize, values: &mut [u32]) -> Run
-    requires { ⌜ from ≤ length (now bytes) ⌝ }
     ensures { λ r. ⌜ RunRead (now (bytes .entry)) from (length (now (values .entry))) (now (values .exit)) r ⌝ }
 {
     let mut at = from;
@@ -58,7 +56,8 @@ pub fn stored_size(values: &[u32]) -> usize
     size
 }
 
-// Writes the stored forms of the numbers from `from` on, and answers the place after them.
+// Writes the stored forms of the numbers from `from` on, and answers the place after them. The crate of joint files shows that there is
+// room: it measures them first.
 pub fn put_numbers(buffer: &mut [u8], from: usize, values: &[u32]) -> usize
     requires { ⌜ from + length (storedAll (now values)) ≤ length (now buffer) ⌝ }
     ensures { λ r. ⌜ Put (now (buffer .entry)) from (storedAll (now (values .entry))) (now (buffer .exit)) r ⌝ }

@@ -12,9 +12,9 @@ use borrow.Author.Tests.{lt-ltb, le-ltb, le-leb, ltb-true, ltb-false}
 use lib.Dec.{leb, ltb, eqb}
 use lib.ListN.{length, getD, drop, drop-of-length-le}
 use lib.Seq.{drop-cons}
-use Rattle.jointfile.specs.Outcome.{Outcome, got, refused}
-use Rattle.jointfile.specs.Number.{above, readGroups, readNumber, NumberRead}
-use Rattle.jointfile.specs.declared.number.Number.the-variants.{Value, Refused}
+use Rattle.numbers.specs.Outcome.{Outcome, got, refused}
+use Rattle.numbers.specs.Number.{above, readGroups, readNumber, NumberRead}
+use Rattle.numbers.specs.declared.number.Number.the-variants.{Value, Refused}
 
 -- nothing read yet
 pub above-none : (outcome : Outcome ℕ) → outcome ≡ above 1 0 outcome

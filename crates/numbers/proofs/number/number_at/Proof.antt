@@ -5,9 +5,9 @@ use borrow.Author.Needs.{needs}
 use native.Mathlib.Omega.{arith}
 use lib.ListN.{length}
 use denote.Ref.{now}
-use Rattle.jointfile.proofs.Groups.{Head, Turn, head-none, head-more, answer-cut, answer-over, answer-longer, answer-value, last-fits, more-fits, scale-fits}
-use Rattle.jointfile.proofs.number.number_at.Statement.{statement}
-use Rattle.jointfile.proofs.number.number_at.Tie as tie
+use Rattle.numbers.proofs.Groups.{Head, Turn, head-none, head-more, answer-cut, answer-over, answer-longer, answer-value, last-fits, more-fits, scale-fits}
+use Rattle.numbers.proofs.number.number_at.Statement.{statement}
+use Rattle.numbers.proofs.number.number_at.Tie as tie
 
 abbrev Inv-loop : tie.InvT-loop
 Inv-loop bytes from at₀ scale₀ value₀ at scale value = Head bytes from at scale value

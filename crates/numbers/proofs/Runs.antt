@@ -7,11 +7,11 @@ use native.Mathlib.Omega.{arith}
 use native.Mathlib.Numerals.{add-one}
 use lib.ListN.{length, take, drop, set, length-set}
 use lib.Seq.{take-all, take-suc-set}
-use Rattle.jointfile.specs.Outcome.{Outcome, got, refused, after}
-use Rattle.jointfile.specs.Number.{readNumber, NumberRead}
-use Rattle.jointfile.specs.File.{readNumbers, RunRead}
-use Rattle.jointfile.specs.declared.number.Number.the-variants.{Value, Refused as NumberRefused}
-use Rattle.jointfile.specs.declared.run.Run.the-variants.{Next, Refused}
+use Rattle.numbers.specs.Outcome.{Outcome, got, refused, after}
+use Rattle.numbers.specs.Number.{readNumber, NumberRead}
+use Rattle.numbers.specs.Run.{readNumbers, RunRead}
+use Rattle.numbers.specs.declared.number.Number.the-variants.{Value, Refused as NumberRefused}
+use Rattle.numbers.specs.declared.run.Run.the-variants.{Next, Refused}
 
 -- these numbers, and then those of the outcome
 abbrev pub prepend : List ℕ → Outcome (List ℕ) → Outcome (List ℕ)
@@ -43,16 +43,16 @@ numbers-refused count bytes r e = rw e
 pub record RunHead (bytes : List ℕ) (from count : ℕ) (values : List ℕ) (at i : ℕ) : Type 0 where
   pub holds : length values ≡ count
   pub few : i ≤ count
-  pub inside : at ≤ length bytes
+  pub inside : from ≤ length bytes → at ≤ length bytes
   pub reads : readNumbers count (drop from bytes) ≡ prepend (take i values) (readNumbers (count - i) (drop at bytes))
 
-pub run-none : (bytes : List ℕ) (from : ℕ) (values : List ℕ) → from ≤ length bytes → RunHead bytes from (length values) values from 0
-run-none bytes from values inside =
+pub run-none : (bytes : List ℕ) (from : ℕ) (values : List ℕ) → RunHead bytes from (length values) values from 0
+run-none bytes from values =
     let all : length values - 0 ≡ length values = omega arith in
     record {
       holds = refl;
       few = omega arith;
-      inside = inside;
+      inside = λ inside. inside;
       reads = rw all (prepend-none (readNumbers (length values) (drop from bytes)));
     }
 
@@ -73,7 +73,7 @@ module _ {bytes : List ℕ} {from count : ℕ} {values : List ℕ} {at i : ℕ} 
   pub run-refused : (r : ℕ) → NumberRead bytes at (NumberRefused r) → RunRead bytes from count values (Refused r)
   run-refused r read =
       let stops = numbers-refused (count - (i + 1)) (drop at bytes) r (sym (read .told)) in
-      record { told = sym (head .reads ∙ rw (one-less, stops)); within = omega arith }
+      record { told = sym (head .reads ∙ rw (one-less, stops)); within = λ inside. omega arith }
 
   pub run-more : (x next : ℕ) → NumberRead bytes at (Value x next) → RunHead bytes from count (set values i x) next (i + 1)
   run-more x next read =
@@ -82,6 +82,6 @@ module _ {bytes : List ℕ} {from count : ℕ} {values : List ℕ} {at i : ℕ} 
       record {
         holds = length-set values i x ∙ head .holds;
         few = omega arith;
-        inside = read .within;
+        inside = λ inside. read .within;
         reads = head .reads ∙ rw (one-less, goes-on, prepend-prepend, add-one, take-suc-set);
       }

@@ -5,10 +5,10 @@ use mathlib.Core.Path.{ap, _∙_}
 use native.Mathlib.Omega.{arith}
 use borrow.Author.Needs.{needs}
 use lib.ListN.{length}
-use Rattle.jointfile.specs.Number.{refusalNumber}
-use Rattle.jointfile.proofs.Runs.{RunHead, run-none, run-more, run-refused, run-done}
-use Rattle.jointfile.proofs.run.numbers_at.Statement.{statement}
-use Rattle.jointfile.proofs.run.numbers_at.Tie as tie
+use Rattle.numbers.specs.Number.{refusalNumber}
+use Rattle.numbers.proofs.Runs.{RunHead, run-none, run-more, run-refused, run-done}
+use Rattle.numbers.proofs.run.numbers_at.Statement.{statement}
+use Rattle.numbers.proofs.run.numbers_at.Tie as tie
 
 abbrev Inv-loop : tie.InvT-loop
 Inv-loop bytes from values₀ at₀ i₀ values at i = RunHead bytes from (length values₀) values at i
@@ -17,7 +17,7 @@ abbrev μ-loop : tie.MeasureT-loop
 μ-loop bytes from values₀ at₀ i₀ values at i = length values₀ - i
 
 loop-holds : tie.Need-loop-holds Inv-loop μ-loop
-loop-holds c = run-none _ _ _ (c .before .before .pre)
+loop-holds c = run-none _ _ _
 
 number-at-requires : tie.Need-number-at-requires Inv-loop μ-loop
 number-at-requires c κs = search needs

@@ -6,9 +6,9 @@ use mathlib.Core.List.{List, [], _∷_}
 use mathlib.Core.Bool.{cond, _&&_}
 use lib.Dec.{leb, ltb, eqb}
 use lib.ListN.{length, getD, drop}
-use Rattle.jointfile.specs.Outcome.{Outcome, got, refused}
-use Rattle.jointfile.specs.declared.number.Number.{Number}
-use Rattle.jointfile.specs.declared.number.Number.the-variants.{Value, Refused}
+use Rattle.numbers.specs.Outcome.{Outcome, got, refused}
+use Rattle.numbers.specs.declared.number.Number.{Number}
+use Rattle.numbers.specs.declared.number.Number.the-variants.{Value, Refused}
 
 -- The seven-bit groups of a number, the lowest first, 128 added to each that more follow; at most so many.
 unfoldable pub groups : ℕ → ℕ → List ℕ

@@ -10,10 +10,10 @@ use borrow.Author.Tests.{le-leb, lt-leb}
 use lib.Dec.{leb}
 use lib.ListN.{length, length-append}
 use mir.Val.{boolByte}
-use Rattle.jointfile.specs.Number.{groups, stored}
-use Rattle.jointfile.specs.Write.{storedAll}
-use Rattle.jointfile.proofs.Groups.{split}
-use Rattle.jointfile.proofs.Codec.{groups-last, groups-more}
+use Rattle.numbers.specs.Number.{groups, stored}
+use Rattle.numbers.specs.Run.{storedAll}
+use Rattle.numbers.proofs.Groups.{split}
+use Rattle.numbers.proofs.Codec.{groups-last, groups-more}
 
 -- how many of `most` limits the number reaches, each 128 times the one before
 reaches : ℕ → ℕ → ℕ → ℕ

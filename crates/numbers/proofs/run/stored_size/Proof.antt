@@ -6,11 +6,11 @@ use native.Mathlib.Omega.{arith}
 use borrow.Author.Needs.{needs}
 use lib.ListN.{length, drop}
 use denote.Ref.{now}
-use Rattle.jointfile.specs.Write.{storedAll}
-use Rattle.jointfile.proofs.Puts.{size-next, stored-end}
-use Rattle.jointfile.proofs.Sizes.{storedAll-short}
-use Rattle.jointfile.proofs.run.stored_size.Statement.{statement}
-use Rattle.jointfile.proofs.run.stored_size.Tie as tie
+use Rattle.numbers.specs.Run.{storedAll}
+use Rattle.numbers.proofs.Puts.{size-next, stored-end}
+use Rattle.numbers.proofs.Sizes.{storedAll-short}
+use Rattle.numbers.proofs.run.stored_size.Statement.{statement}
+use Rattle.numbers.proofs.run.stored_size.Tie as tie
 
 abbrev Inv-loop : tie.InvT-loop
 Inv-loop values size₀ i₀ size i = size + length (storedAll (drop i values)) ≡ length (storedAll values)

@@ -2,9 +2,9 @@
 -- Assumes nothing.
 use native.Mathlib.Omega.{arith}
 use lib.ListN.{length-set}
-use Rattle.jointfile.proofs.Puts.{PutHead, put-none, put-room, put-more, put-last}
-use Rattle.jointfile.proofs.number.put_number.Statement.{statement}
-use Rattle.jointfile.proofs.number.put_number.Tie as tie
+use Rattle.numbers.proofs.Puts.{PutHead, put-none, put-room, put-more, put-last}
+use Rattle.numbers.proofs.number.put_number.Statement.{statement}
+use Rattle.numbers.proofs.number.put_number.Tie as tie
 
 abbrev Inv-loop : tie.InvT-loop
 Inv-loop buffer₀ from x at₀ left₀ buffer at left = PutHead buffer₀ from x buffer at left

@@ -1,10 +1,9 @@
-// Numbers of a joint file: groups of seven bits, the lowest first, the top bit set when more follow. The module is private: what is
-// `pub` here is so for this crate alone, and its callers show what it requires.
+// Numbers of a joint file: groups of seven bits, the lowest first, the top bit set when more follow.
 ghost use mathlib.Core.Path.{_≡_};
 ghost use Prim.Native.Nat.{_+_, _≤_};
 ghost use lib.ListN.{length};
-ghost use Rattle.jointfile.specs.Number.{stored, NumberRead, refusalNumber};
-ghost use Rattle.jointfile.specs.Write.{Put};
+ghost use Rattle.numbers.specs.Number.{stored, NumberRead, refusalNumber};
+ghost use Rattle.numbers.specs.Run.{Put};
 
 // What reading a number answers: its value with the place after its last byte, or document 01's refusal number.
 pub enum Number {
@@ -69,7 +68,7 @@ pub fn stored_length(x: u32) -> usize
         + (268435456 <= x) as usize
 }
 
-// Writes a number's stored form from `from` on, and answers the place after it.
+// Writes a number's stored form from `from` on, and answers the place after it. `put_numbers` shows that there is room.
 pub fn put_number(buffer: &mut [u8], from: usize, x: u32) -> usize
     requires { ⌜ from + length (stored x) ≤ length (now buffer) ⌝ }
     ensures { λ r. ⌜ Put (now (buffer .entry)) from (stored x) (now (buffer .exit)) r ⌝ }

@@ -1,10 +1,10 @@
 -- `number::stored_length` meets its contract: the sum of tests is the law's. Assumes nothing.
 use native.Mathlib.Omega.{arith}
 use lib.Dec.{leb}
-use Rattle.jointfile.proofs.Sizes.{stored-length, bit-small}
+use Rattle.numbers.proofs.Sizes.{stored-length, bit-small}
 use borrow.Author.Needs.{needs}
-use Rattle.jointfile.proofs.number.stored_length.Statement.{statement}
-use Rattle.jointfile.proofs.number.stored_length.Tie as tie
+use Rattle.numbers.proofs.number.stored_length.Statement.{statement}
+use Rattle.numbers.proofs.number.stored_length.Tie as tie
 
 cast-result : tie.Need-cast-result
 cast-result c = search needs

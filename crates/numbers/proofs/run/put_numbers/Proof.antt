@@ -4,9 +4,9 @@ use Prim.Native.Nat.{_-_}
 use native.Mathlib.Omega.{arith}
 use borrow.Author.Needs.{needs}
 use lib.ListN.{length}
-use Rattle.jointfile.proofs.Puts.{PutsHead, puts-none, puts-room, puts-more, puts-done}
-use Rattle.jointfile.proofs.run.put_numbers.Statement.{statement}
-use Rattle.jointfile.proofs.run.put_numbers.Tie as tie
+use Rattle.numbers.proofs.Puts.{PutsHead, puts-none, puts-room, puts-more, puts-done}
+use Rattle.numbers.proofs.run.put_numbers.Statement.{statement}
+use Rattle.numbers.proofs.run.put_numbers.Tie as tie
 
 abbrev Inv-loop : tie.InvT-loop
 Inv-loop buffer₀ from values at₀ done₀ buffer at done = PutsHead buffer₀ from values buffer at done

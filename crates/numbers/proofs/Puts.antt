@@ -6,14 +6,14 @@ use mathlib.Core.List.{List, [], _∷_, _++_}
 use mathlib.Core.Bool.{true, false}
 use native.Mathlib.Omega.{arith}
 use native.Mathlib.Numerals.{add-one}
-use native.Mathlib.Nat.{pow-suc, add-zero, zero-add}
-use borrow.Author.Tests.{le-leb, lt-leb, ne-eqb}
+use native.Mathlib.Nat.{pow-suc, add-zero}
+use borrow.Author.Tests.{ne-eqb}
 use lib.ListN.{length, getD, drop, set, length-set, length-append, drop-of-length-le}
-use lib.Seq.{sets, sets-eq, drop-cons, length-sets}
-use Rattle.jointfile.specs.Number.{groups, stored}
-use Rattle.jointfile.specs.Write.{storedAll, Put, allZero, turnedDown, placed}
-use Rattle.jointfile.proofs.Codec.{groups-last, groups-more}
-use Rattle.jointfile.proofs.Sizes.{groups-positive}
+use lib.Seq.{sets, drop-cons, length-sets}
+use Rattle.numbers.specs.Number.{groups, stored}
+use Rattle.numbers.specs.Run.{storedAll, Put, allZero}
+use Rattle.numbers.proofs.Codec.{groups-last, groups-more}
+use Rattle.numbers.proofs.Sizes.{groups-positive}
 
 -- A number's groups are being written: `left` is what the groups from `at` on are to hold, in one and at most `more` others.
 pub record PutHead (buffer₀ : List ℕ) (from x : ℕ) (buffer : List ℕ) (at left : ℕ) : Type 0 where
@@ -55,7 +55,7 @@ module _ {buffer₀ : List ℕ} {from x : ℕ} {buffer : List ℕ} {at left : �
 
 -- ---- runs of numbers
 
-sets-append : (l : List ℕ) (i : ℕ) (xs ys : List ℕ) → sets l i (xs ++ ys) ≡ sets (sets l i xs) (i + length xs) ys
+pub sets-append : (l : List ℕ) (i : ℕ) (xs ys : List ℕ) → sets l i (xs ++ ys) ≡ sets (sets l i xs) (i + length xs) ys
 sets-append l i [] ys = rw add-zero
 sets-append l i (x ∷ xs) ys =
     let place : i + suc (length xs) ≡ suc i + length xs = omega arith in
@@ -105,24 +105,6 @@ module _ {buffer₀ : List ℕ} {from : ℕ} {values buffer : List ℕ} {at i : 
               (sym (sets-append buffer at (stored x) (storedAll (drop (i + 1) values)))
               ∙ ap (sets buffer at) (sym (stored-next values i inside)) ∙ head .writes);
         }
-
--- ---- into a buffer
-
-pub placed-short : (bytes buffer : List ℕ) → length buffer < length bytes → turnedDown buffer 5 ≡ placed bytes buffer
-unfolding placed
-placed-short bytes buffer short = simp (lt-leb (length bytes) (length buffer) short)
-
--- two parts put one after the other are the whole
-pub placed-parts : {xs ys buffer between exit : List ℕ} {at next : ℕ} → Put buffer 0 xs between at → Put between at ys exit next
-    → length xs + length ys ≤ length buffer
-    → record { refusal = 0; size = length xs + length ys; buffer = exit } ≡ placed (xs ++ ys) buffer
-unfolding placed
-placed-parts {xs} {ys} {buffer} {between} {exit} {at} first second room =
-    let size : length (xs ++ ys) ≡ length xs + length ys = length-append xs ys in
-    let both : exit ≡ sets buffer 0 (xs ++ ys) = second .stores ∙ rw (first .stores, first .place) (sym (sets-append buffer 0 xs ys)) in
-    let whole : exit ≡ (xs ++ ys) ++ drop (length (xs ++ ys)) buffer =
-    both ∙ sets-eq (xs ++ ys) buffer 0 (omega arith) ∙ rw zero-add in
-    simp (le-leb (length (xs ++ ys)) (length buffer) (omega arith)) (λ i. record { refusal = 0; size = sym size i; buffer = whole i })
 
 -- ---- numbers that are all 0
 

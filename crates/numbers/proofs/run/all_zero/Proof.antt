@@ -5,10 +5,10 @@ use mathlib.Core.Path.{_≡_, refl, sym, _∙_}
 use native.Mathlib.Omega.{arith}
 use borrow.Author.Needs.{needs}
 use lib.ListN.{length, drop}
-use Rattle.jointfile.specs.Write.{allZero}
-use Rattle.jointfile.proofs.Puts.{zero-next, zero-not, zero-end}
-use Rattle.jointfile.proofs.run.all_zero.Statement.{statement}
-use Rattle.jointfile.proofs.run.all_zero.Tie as tie
+use Rattle.numbers.specs.Run.{allZero}
+use Rattle.numbers.proofs.Puts.{zero-next, zero-not, zero-end}
+use Rattle.numbers.proofs.run.all_zero.Statement.{statement}
+use Rattle.numbers.proofs.run.all_zero.Tie as tie
 
 abbrev Inv-loop : tie.InvT-loop
 Inv-loop values i₀ i = allZero values ≡ allZero (drop i values)
