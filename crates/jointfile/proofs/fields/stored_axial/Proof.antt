@@ -1,8 +1,9 @@
 -- `fields::stored_axial` meets its contract: on either sign the machine's number is n of `pos n` or `negsuc n`.
 -- Assumes nothing.
-use mathlib.Core.Path.{sym}
+use mathlib.Core.Path.{sym, ap}
 use native.Mathlib.Omega.{arith}
-use Rattle.jointfile.proofs.Axial.{Negative, negative, Positive, positive}
+use Rattle.joint.proofs.Signs.{Negative, negative, Positive, positive}
+use Rattle.jointfile.specs.Fields.{storedAxial}
 use Rattle.jointfile.proofs.fields.stored_axial.Statement.{statement}
 use Rattle.jointfile.proofs.fields.stored_axial.Tie as tie
 
@@ -31,10 +32,12 @@ mul-result-2 : tie.Need-mul-result-2
 mul-result-2 c = rw (above c .bits) (omega (arith, above c .small))
 
 returns : tie.Need-returns
-returns c = rw (below c .bits) (sym (below c .stores))
+unfolding storedAxial
+returns c = rw (below c .bits) (sym (ap storedAxial (below c .is)))
 
 returns-2 : tie.Need-returns-2
-returns-2 c = rw (above c .bits) (sym (above c .stores))
+unfolding storedAxial
+returns-2 c = rw (above c .bits) (sym (ap storedAxial (above c .is)))
 
 pub stored-axial-spec : {M : Type 1} → statement M
 stored-axial-spec =
