@@ -1,24 +1,22 @@
 -- What a caller of `read` leans on. The place that it answers lies in the bytes, and what follows it is what is left of them, since what
 -- was read is written to the same bytes; a joint takes some; and the refusal is 0 just where a joint was read. Assumes nothing.
-use Prim.Native.Nat.{ℕ, zero, suc, _-_, _≤_, _<_}
+use Prim.Native.Nat.{ℕ, _-_, _≤_, _<_}
 use mathlib.Core.Path.{_≡_, refl}
-use mathlib.Core.List.{List, [], _∷_}
-use mathlib.Core.Bool.{Bool, true, false, cond, _&&_}
+use mathlib.Core.List.{List}
 use native.Mathlib.Omega.{arith}
-use lib.Dec.{leb, ltb, eqb}
 use lib.ListN.{length, drop, length-append}
 use lib.Seq.{drop-length, drop-at}
 use Rattle.arithmetic.specs.Range.{within}
 use Rattle.joint.specs.Ranges.{rowCounts}
 use Rattle.joint.specs.declared.Joint.{Joint}
 use Rattle.numbers.specs.Run.{readNumbers, storedAll}
+use Rattle.numbers.specs.Outcome.{Outcome, got, refused}
+use Rattle.numbers.specs.Number.{readNumber, Bytes}
 use Rattle.numbers.proofs.Refusals.{Numbered, numbered-cond, numbered-after, numbered-number, numbered-numbers}
-use Rattle.numbers.specs.Outcome.{Outcome, got, refused, after}
-use Rattle.numbers.specs.Number.{above, readGroups, readNumber, Bytes}
+use Rattle.numbers.proofs.Sizes.{groups-positive}
 use Rattle.jointfile.specs.Fields.{fieldsOf}
 use Rattle.jointfile.specs.File.{readOthers, readJoint, answer, reading, leftOf, restOf}
 use Rattle.jointfile.specs.Write.{fileOf, file}
-use Rattle.numbers.proofs.Sizes.{groups-positive}
 use Rattle.jointfile.proofs.RoundTrip.{writes-again}
 
 pub next-within : (bytes : List ℕ) → reading bytes .next ≤ length bytes

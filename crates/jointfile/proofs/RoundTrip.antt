@@ -1,6 +1,6 @@
 -- The round trip of a joint file. What is written reads back to the same joint, with anything after it, and leaves exactly that; and what
 -- was read, written again, is the same bytes. Number by number from the codec, then field by field. Assumes nothing.
-use Prim.Native.Nat.{ℕ, zero, suc, _+_, _-_, _^_, _≤_, _<_}
+use Prim.Native.Nat.{ℕ, zero, suc, _-_, _^_, _≤_, _<_}
 use mathlib.Core.Path.{_≡_, refl, sym, ap, ap₂, _∙_, subst₂}
 use mathlib.Core.List.{List, [], _∷_, _++_, append-assoc}
 use mathlib.Core.Bool.{Bool, true, false, cond, and-eq-true-iff}
@@ -9,21 +9,21 @@ use native.Mathlib.Omega.{arith}
 use borrow.Author.Tests.{eqb-true}
 use lib.Dec.{leb, eqb}
 use lib.ListN.{length, getD, take, drop, replicate, length-append, length-take, length-drop, take-append-drop, List·getD-eq-default, length-replicate}
-use lib.Seq.{getD-append-add, getD-take, length-take-le, take-at, drop-at}
+use lib.Seq.{getD-take, length-take-le, take-at, drop-at}
 use Rattle.arithmetic.specs.Range.{within}
 use Rattle.joint.specs.Ranges.{rowCounts}
 use Rattle.joint.specs.declared.Joint.{Joint}
 use Rattle.numbers.specs.Run.{readNumbers, storedAll, allZero}
-use Rattle.numbers.proofs.RunCodec.{read-storedAll, after-got, bytes-left, TakenAll, taken-all}
-use Rattle.numbers.specs.Outcome.{Outcome, got, refused, after}
+use Rattle.numbers.specs.Outcome.{got, refused, after}
 use Rattle.numbers.specs.Number.{stored, readNumber, Bytes}
+use Rattle.numbers.proofs.RunCodec.{read-storedAll, after-got, bytes-left, TakenAll, taken-all}
+use Rattle.numbers.proofs.Codec.{read-stored, stored-read, number-small}
+use Rattle.numbers.proofs.Sizes.{storedAll-append}
+use Rattle.numbers.proofs.Groups.{split}
 use Rattle.jointfile.specs.Fields.{jointOf, fieldsOf}
 use Rattle.jointfile.specs.File.{eight, readOthers, readJoint}
 use Rattle.jointfile.specs.Write.{fileOf, file, spareZero, placed, writingRows, writing, Held, Writable}
-use Rattle.numbers.proofs.Codec.{read-stored, stored-read, number-small}
-use Rattle.numbers.proofs.Sizes.{storedAll-append}
 use Rattle.jointfile.proofs.Axial.{axial-stored, stored-axial}
-use Rattle.numbers.proofs.Groups.{split}
 use Rattle.jointfile.proofs.Answers.{row-count-most}
 
 -- ---- fields
