@@ -18,7 +18,7 @@ use Rattle.numbers.specs.Number.{NumberRead}
 use Rattle.numbers.specs.declared.number.Number.the-variants.{Value, Refused as NumberRefused}
 use Rattle.numbers.specs.declared.run.Run.the-variants.{Next, Refused}
 use Rattle.numbers.proofs.Sizes.{storedAll-append}
-use Rattle.jointfile.specs.Fields.{jointOf, fieldsOf}
+use Rattle.fields.specs.Fields.{jointOf, fieldsOf}
 use Rattle.jointfile.specs.File.{eight, readOthers, readJoint, answer}
 use Rattle.jointfile.specs.Write.{fileOf, turnedDown, placed, writingRows, writing}
 

@@ -1,6 +1,5 @@
 -- The laws of joint files. `RoundTrip` has the two of the whole file and `Places` what a caller of `read` leans on; the others carry the
 -- code to the definitions. They assume nothing.
-pub mod Axial
 pub mod Answers
 pub mod Placed
 pub mod RoundTrip

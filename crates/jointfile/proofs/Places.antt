@@ -14,7 +14,7 @@ use Rattle.numbers.specs.Outcome.{Outcome, got, refused}
 use Rattle.numbers.specs.Number.{readNumber, Bytes}
 use Rattle.numbers.proofs.Refusals.{Numbered, numbered-cond, numbered-after, numbered-number, numbered-numbers}
 use Rattle.numbers.proofs.Sizes.{groups-positive}
-use Rattle.jointfile.specs.Fields.{fieldsOf}
+use Rattle.fields.specs.Fields.{fieldsOf}
 use Rattle.jointfile.specs.File.{readOthers, readJoint, answer, reading, leftOf, restOf}
 use Rattle.jointfile.specs.Write.{fileOf, file}
 use Rattle.jointfile.proofs.RoundTrip.{writes-again}

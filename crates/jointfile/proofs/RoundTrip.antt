@@ -20,34 +20,11 @@ use Rattle.numbers.proofs.RunCodec.{read-storedAll, after-got, bytes-left, Take
 use Rattle.numbers.proofs.Codec.{read-stored, stored-read, number-small}
 use Rattle.numbers.proofs.Sizes.{storedAll-append}
 use Rattle.numbers.proofs.Groups.{split}
-use Rattle.jointfile.specs.Fields.{jointOf, fieldsOf}
+use Rattle.fields.specs.Fields.{jointOf, fieldsOf}
+use Rattle.fields.proofs.Order.{fields-joint, joint-fields}
 use Rattle.jointfile.specs.File.{eight, readOthers, readJoint}
 use Rattle.jointfile.specs.Write.{fileOf, file, spareZero, placed, writingRows, writing, Held, Writable}
-use Rattle.jointfile.proofs.Axial.{axial-stored, stored-axial}
 use Rattle.jointfile.proofs.Answers.{row-count-most}
-
--- ---- fields
-
-tabulate : ℕ → (ℕ → ℕ) → List ℕ
-tabulate zero f = []
-tabulate (suc n) f = f 0 ∷ tabulate n (λ k. f (suc k))
-
-tabulate-getD : (n : ℕ) (xs : List ℕ) → length xs ≡ n → tabulate n (λ k. getD xs k 0) ≡ xs
-unfolding tabulate
-tabulate-getD zero [] long = refl
-tabulate-getD zero (x ∷ xs) long = absurd (omega arith)
-tabulate-getD (suc n) [] long = absurd (omega arith)
-tabulate-getD (suc n) (x ∷ xs) long = ap (λ (l : List ℕ). x ∷ l) (tabulate-getD n xs (omega arith))
-
--- a joint has the fields that it was made of
-fields-joint : (fields levers : List ℕ) → length fields ≡ 29 → fieldsOf (jointOf fields levers) ≡ fields
-unfolding fieldsOf jointOf tabulate
-fields-joint fields levers long = rw stored-axial (tabulate-getD 29 fields long)
-
--- a joint is made of its fields
-joint-fields : (joint : Joint) → jointOf (fieldsOf joint) (joint .face .levers) ≡ joint
-unfolding fieldsOf jointOf
-joint-fields joint = rw axial-stored
 
 -- ---- levers
 

@@ -10,7 +10,7 @@ use Rattle.joint.specs.declared.Joint.{Joint}
 use Rattle.numbers.specs.Outcome.{Outcome, got, refused, after}
 use Rattle.numbers.specs.Number.{readNumber}
 use Rattle.numbers.specs.Run.{readNumbers}
-use Rattle.jointfile.specs.Fields.{jointOf}
+use Rattle.fields.specs.Fields.{jointOf}
 use Rattle.jointfile.specs.declared.Reading.{Reading}
 
 -- the levers of the rows, and 0 for each spare one up to eight

@@ -1,5 +1,4 @@
--- What a joint file is: the order of its fields, reading one and writing one, each in a file of its own. Its numbers are those of the
--- crate `numbers`. The definitions compute, and assume nothing.
-pub mod Fields
+-- What a joint file is: reading one and writing one. Its numbers are those of the crate `numbers`, and their order is that of `fields`.
+-- The definitions compute, and assume nothing.
 pub mod File
 pub mod Write

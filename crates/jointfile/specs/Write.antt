@@ -10,7 +10,7 @@ use Rattle.arithmetic.specs.Range.{within}
 use Rattle.joint.specs.Ranges.{rowCounts}
 use Rattle.joint.specs.declared.Joint.{Joint}
 use Rattle.numbers.specs.Run.{storedAll, allZero}
-use Rattle.jointfile.specs.Fields.{fieldsOf}
+use Rattle.fields.specs.Fields.{fieldsOf}
 use Rattle.jointfile.specs.declared.Written.{Written}
 use Rattle.jointfile.specs.declared.Written.the-variants.{Length, Refused}
 

@@ -2,8 +2,6 @@
 // lent buffer. Each goes over the bytes once, from front to back. Two things are done twice, for a reason. `write` measures the
 // numbers before it puts them, since a buffer that is too short stays untouched. And `rest` reads the joint again; a caller that has
 // `read`'s answer need not ask it, since the bytes from the answer's next place on are what is left.
-mod fields;
-
 use fields::fields_of;
 use fields::joint_of;
 use joint::Joint;

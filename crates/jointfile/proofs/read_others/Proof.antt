@@ -6,7 +6,7 @@ use native.Mathlib.Omega.{arith}
 use lib.Seq.{length-take-le}
 use lib.ListN.{replicate}
 use denote.Ref.{now}
-use Rattle.jointfile.specs.Fields.{jointOf}
+use Rattle.fields.specs.Fields.{jointOf}
 use Rattle.numbers.specs.Run.{runRefusal, RunRead}
 use Rattle.jointfile.specs.File.{answer}
 use Rattle.jointfile.proofs.Answers.{levers-eight, others-refused, levers-refused, levers-got, answer-got}

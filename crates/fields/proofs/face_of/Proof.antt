@@ -1,9 +1,9 @@
--- `fields::face_of` meets its contract: beam and loads are what their functions ensure, and the rest is as it stands.
+-- `face_of` meets its contract: beam and loads are what their functions ensure, and the rest is as it stands.
 -- Assumes nothing.
-use Rattle.jointfile.specs.Fields.{faceOf}
+use Rattle.fields.specs.Fields.{faceOf}
 use borrow.Author.Needs.{needs}
-use Rattle.jointfile.proofs.fields.face_of.Statement.{statement}
-use Rattle.jointfile.proofs.fields.face_of.Tie as tie
+use Rattle.fields.proofs.face_of.Statement.{statement}
+use Rattle.fields.proofs.face_of.Tie as tie
 
 array-read-t9 : tie.Need-array-read-t9
 array-read-t9 c = search needs

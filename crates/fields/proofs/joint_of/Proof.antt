@@ -1,9 +1,9 @@
--- `fields::joint_of` meets its contract: column and face are what their functions ensure, and the bolts are as they stand.
+-- `joint_of` meets its contract: column and face are what their functions ensure, and the bolts are as they stand.
 -- Assumes nothing.
-use Rattle.jointfile.specs.Fields.{boltsOf, jointOf}
+use Rattle.fields.specs.Fields.{boltsOf, jointOf}
 use borrow.Author.Needs.{needs}
-use Rattle.jointfile.proofs.fields.joint_of.Statement.{statement}
-use Rattle.jointfile.proofs.fields.joint_of.Tie as tie
+use Rattle.fields.proofs.joint_of.Statement.{statement}
+use Rattle.fields.proofs.joint_of.Tie as tie
 
 array-read-t7 : tie.Need-array-read-t7
 array-read-t7 c = search needs

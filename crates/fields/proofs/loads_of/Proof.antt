@@ -1,12 +1,12 @@
--- `fields::loads_of` meets its contract: the axial force comes back from its 32 bits as it was, and the rest is as it stands.
+-- `loads_of` meets its contract: the axial force comes back from its 32 bits as it was, and the rest is as it stands.
 -- Assumes nothing.
 use mathlib.Core.Path.{_≡_, _∙_}
 use lib.ListN.{getD}
 use mir.Syntax.{w32}
 use mir.Val.{toZ, ofZ}
 use borrow.Author.Needs.{needs}
-use Rattle.jointfile.proofs.fields.loads_of.Statement.{statement}
-use Rattle.jointfile.proofs.fields.loads_of.Tie as tie
+use Rattle.fields.proofs.loads_of.Statement.{statement}
+use Rattle.fields.proofs.loads_of.Tie as tie
 
 array-read-axial-of : tie.Need-array-read-axial-of
 array-read-axial-of c = search needs

@@ -1,11 +1,11 @@
--- `fields::stored_axial` meets its contract: on either sign the machine's number is n of `pos n` or `negsuc n`.
+-- `stored_axial` meets its contract: on either sign the machine's number is n of `pos n` or `negsuc n`.
 -- Assumes nothing.
 use mathlib.Core.Path.{sym, ap}
 use native.Mathlib.Omega.{arith}
 use Rattle.joint.proofs.Signs.{Negative, negative, Positive, positive}
-use Rattle.jointfile.specs.Fields.{storedAxial}
-use Rattle.jointfile.proofs.fields.stored_axial.Statement.{statement}
-use Rattle.jointfile.proofs.fields.stored_axial.Tie as tie
+use Rattle.fields.specs.Fields.{storedAxial}
+use Rattle.fields.proofs.stored_axial.Statement.{statement}
+use Rattle.fields.proofs.stored_axial.Tie as tie
 
 below : (c : tie.Then1) → Negative (c .before .args .axial)
 below c = negative (c .before .args .axial) (c .before .fits .axial) (c .if1 .taken)

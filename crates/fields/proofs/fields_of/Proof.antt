@@ -1,12 +1,12 @@
--- `fields::fields_of` meets its contract: the list is that of the definition, once the axial force, which comes back from its 32 bits
+-- `fields_of` meets its contract: the list is that of the definition, once the axial force, which comes back from its 32 bits
 -- as it was, is put into its stored form. Assumes nothing.
 use mathlib.Core.Path.{_≡_}
 use borrow.Author.Needs.{needs}
 use mir.Syntax.{w32}
 use mir.Val.{toZ, ofZ}
-use Rattle.jointfile.specs.Fields.{fieldsOf}
-use Rattle.jointfile.proofs.fields.fields_of.Statement.{statement}
-use Rattle.jointfile.proofs.fields.fields_of.Tie as tie
+use Rattle.fields.specs.Fields.{fieldsOf}
+use Rattle.fields.proofs.fields_of.Statement.{statement}
+use Rattle.fields.proofs.fields_of.Tie as tie
 
 stored-axial-requires : tie.Need-stored-axial-requires
 stored-axial-requires c κs = search needs

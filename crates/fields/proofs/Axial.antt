@@ -10,7 +10,7 @@ use lib.Dec.{eqb}
 use lib.IntN.{ℤ, pos, negsuc, _-ℤ_}
 use mir.Syntax.{w32}
 use mir.Val.{SFits}
-use Rattle.jointfile.specs.Fields.{storedAxial, axialOf}
+use Rattle.fields.specs.Fields.{storedAxial, axialOf}
 
 -- -1 - n is negative
 pub minus-one-pos : (n : ℕ) → negsuc 0 -ℤ pos n ≡ negsuc n

@@ -1,5 +1,4 @@
-// A joint's fields in file order: field k of document 01 stands at place k - 1. The module is private: what is `pub` here is so for
-// this crate alone.
+// A joint's fields 1 to 29 in file order: the joint that has them, and those of a joint. Field k of document 01 stands at place k - 1.
 use joint::Beam;
 use joint::Bolts;
 use joint::Column;
@@ -10,7 +9,7 @@ use joint::Loads;
 use joint::Plate;
 use joint::Welds;
 ghost use mathlib.Core.Path.{_≡_};
-ghost use Rattle.jointfile.specs.Fields.{axialOf, storedAxial, columnOf, beamOf, loadsOf, faceOf, jointOf, fieldsOf};
+ghost use Rattle.fields.specs.Fields.{axialOf, storedAxial, columnOf, beamOf, loadsOf, faceOf, jointOf, fieldsOf};
 
 // The axial force that a number of the file stands for.
 fn axial_of(x: u32) -> i32

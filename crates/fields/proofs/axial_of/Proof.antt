@@ -1,4 +1,4 @@
--- `fields::axial_of` meets its contract: half the number is below 2 ^ 31, and -1 less it is `negsuc` of it.
+-- `axial_of` meets its contract: half the number is below 2 ^ 31, and -1 less it is `negsuc` of it.
 -- Assumes nothing.
 use mathlib.Core.Path.{_≡_, sym, _∙_}
 use Prim.Native.Nat.{_/_}
@@ -8,9 +8,9 @@ use lib.IntN.{negsuc, _-ℤ_}
 use mir.Syntax.{w32}
 use mir.Val.{toZ}
 use mir.ValLaws.{toZ-pos, toZ-ofZ}
-use Rattle.jointfile.proofs.Axial.{minus-one-pos, axial-even, axial-odd}
-use Rattle.jointfile.proofs.fields.axial_of.Statement.{statement}
-use Rattle.jointfile.proofs.fields.axial_of.Tie as tie
+use Rattle.fields.proofs.Axial.{minus-one-pos, axial-even, axial-odd}
+use Rattle.fields.proofs.axial_of.Statement.{statement}
+use Rattle.fields.proofs.axial_of.Tie as tie
 
 cast-half : tie.Need-cast-half
 cast-half c = search needs

@@ -1,0 +1,2 @@
+-- The order of a joint's fields in its file. The definitions compute, and assume nothing.
+pub mod Fields
