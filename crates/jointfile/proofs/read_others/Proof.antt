@@ -1,4 +1,5 @@
--- `read_others` meets its contract: each return is a case of the definition, told by the two runs of numbers. Assumes nothing.
+-- `read_others` meets its contract: each return is a case of the definition, told by the two runs of numbers.
+-- Assumes nothing.
 use Prim.Native.Nat.{ℕ}
 use mathlib.Core.Path.{sym, ap, ap₂, _∙_}
 use mathlib.Core.List.{List, _∷_, append-nil}

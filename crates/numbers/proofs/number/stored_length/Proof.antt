@@ -1,4 +1,5 @@
--- `number::stored_length` meets its contract: the sum of tests is the law's. Assumes nothing.
+-- `number::stored_length` meets its contract: the sum of tests is the law's.
+-- Assumes nothing.
 use native.Mathlib.Omega.{arith}
 use lib.Dec.{leb}
 use Rattle.numbers.proofs.Sizes.{stored-length, bit-small}
