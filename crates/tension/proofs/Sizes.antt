@@ -120,7 +120,7 @@ module _ (joint : Joint) (a : Admissible joint) where
           edge-most = record { low = zero-le; high = h };
           thickness = loosen (0 to 500) (a .in-range .column .flange) tt;
           strength = s .yc;
-          pair = s .pair-most
+          pair = s .pair-most;
         }
 
     pub plate-parts : (edge : ℕ) → edge ≤ 30000 → StubParts (spacing .plate) edge (joint .face .plate .thickness) (steel .plate) pair
@@ -131,7 +131,7 @@ module _ (joint : Joint) (a : Admissible joint) where
           edge-most = record { low = zero-le; high = h };
           thickness = loosen (0 to 500) (a .in-range .face .plate .thickness) tt;
           strength = s .yp;
-          pair = s .pair-most
+          pair = s .pair-most;
         }
 
     pub edge-field-le : joint .face .layout .edge ≤ 2000

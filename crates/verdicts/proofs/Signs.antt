@@ -56,13 +56,13 @@ size-of-tension z n e = let m = is-tension z n e in m .1 ∙ sym (ap natAbs (m .
 
 module _ (loads : Loads) (beam : Beam) (z : ℕ) where
   pub compressed : (n : ℕ) → axialForce (loads .axial) ≡ Compression n
-    → leb (20000 * loads .moment) (2 * z + n * (beam .depth - beam .flange)) ≡ carries loads beam z
+      → leb (20000 * loads .moment) (2 * z + n * (beam .depth - beam .flange)) ≡ carries loads beam z
   unfolding carries
   compressed n e =
       rw (is-compression (loads .axial) n e) (sym (less-le (20000 * loads .moment) (n * (beam .depth - beam .flange)) (2 * z)))
 
   pub pulled : (n : ℕ) → axialForce (loads .axial) ≡ Tension n
-    → leb (20000 * loads .moment + n * (beam .depth - beam .flange)) (2 * z) ≡ carries loads beam z
+      → leb (20000 * loads .moment + n * (beam .depth - beam .flange)) (2 * z) ≡ carries loads beam z
   unfolding carries
   pulled n e =
       let m = is-tension (loads .axial) n e in

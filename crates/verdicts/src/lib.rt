@@ -136,11 +136,7 @@ pub fn top_rows(extended: u32, forces: [u64; 8]) -> u64
     ensures { λ r. ⌜ r ≡ topRows extended forces ⌝ }
 {
     let two = forces[0] + forces[1];
-    if extended == 0 {
-        two
-    } else {
-        two + forces[2]
-    }
+    if extended == 0 { two } else { two + forces[2] }
 }
 
 // What a weld of a leg and a length carries.

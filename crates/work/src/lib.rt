@@ -182,7 +182,13 @@ fn tension_cap(force: u64, loads: Loads) -> Cap
 }
 
 // The forces of the joint's rows, under the limits of all groups and the cap on them together.
-fn row_forces(joint: Joint, spacing: Spacing, steel: SteelStrengths, pair: u64, cap: u64) -> [u64; 8]
+fn row_forces(
+    joint: Joint,
+    spacing: Spacing,
+    steel: SteelStrengths,
+    pair: u64,
+    cap: u64,
+) -> [u64; 8]
     requires { ⌜ Admissible joint ⌝ }
     requires { ⌜ Measured joint spacing steel pair ⌝ }
     ensures { λ r. ⌜ r ≡ eightPlaces (shared (joined (limitOf joint) (rowsOf joint) cap) (rowsOf joint)) ⌝ }
@@ -201,7 +207,14 @@ fn least(a: u64, b: u64) -> u64
 }
 
 // The whole result of a joint that isn't refused.
-fn result_of(joint: Joint, spacing: Spacing, steel: SteelStrengths, bolt: BoltStrengths, check: CompressionCheck, cap: u64) -> Outcome
+fn result_of(
+    joint: Joint,
+    spacing: Spacing,
+    steel: SteelStrengths,
+    bolt: BoltStrengths,
+    check: CompressionCheck,
+    cap: u64,
+) -> Outcome
     requires { ⌜ Admissible joint ⌝ }
     requires { ⌜ Measured joint spacing steel (bolt .pair) ⌝ }
     requires { ⌜ (bolt ≡ boltStrengths (joint .bolts)) × (check ≡ governingOf joint) × (cap ≡ capOf joint) ⌝ }
@@ -224,7 +237,13 @@ fn result_of(joint: Joint, spacing: Spacing, steel: SteelStrengths, bolt: BoltSt
 }
 
 // The four verdicts on a joint's forces.
-fn judge(joint: Joint, steel: SteelStrengths, bolt: BoltStrengths, forces: [u64; 8], tally: Tally) -> Verdicts
+fn judge(
+    joint: Joint,
+    steel: SteelStrengths,
+    bolt: BoltStrengths,
+    forces: [u64; 8],
+    tally: Tally,
+) -> Verdicts
     requires { ⌜ InRange joint ⌝ }
     requires { ⌜ (steel ≡ steelOf joint) × (bolt ≡ boltStrengths (joint .bolts)) ⌝ }
     requires { ⌜ (forces ≡ eightPlaces (forcesOf joint)) × (tally ≡ tallyOf (leversOf joint) (forcesOf joint)) ⌝ }
@@ -247,7 +266,12 @@ fn judge(joint: Joint, steel: SteelStrengths, bolt: BoltStrengths, forces: [u64;
             idle,
             face.loads.shear,
         ),
-        flange_weld: verdicts::flange_weld(face, steel.beam, weld, verdicts::top_rows(face.extended, forces)),
+        flange_weld: verdicts::flange_weld(
+            face,
+            steel.beam,
+            weld,
+            verdicts::top_rows(face.extended, forces),
+        ),
         web_weld: verdicts::web_weld(face, weld),
     }
 }
