@@ -13,7 +13,7 @@ use Rattle.line.specs.Line.{spaced, letter}
 use Rattle.line.specs.Put.{Put}
 use Rattle.line.proofs.Numerals.{decimal-last, decimal-more, decimal-short, count-positive}
 
-sets-append : (l : List ℕ) (i : ℕ) (xs ys : List ℕ) → sets l i (xs ++ ys) ≡ sets (sets l i xs) (i + length xs) ys
+pub sets-append : (l : List ℕ) (i : ℕ) (xs ys : List ℕ) → sets l i (xs ++ ys) ≡ sets (sets l i xs) (i + length xs) ys
 sets-append l i [] ys = rw add-zero
 sets-append l i (x ∷ xs) ys =
     let place : i + suc (length xs) ≡ suc i + length xs = omega arith in
