@@ -1,9 +1,6 @@
-pub mod Groups
-pub mod Codec
-pub mod Axial
-pub mod Runs
+-- The laws of joint files. `RoundTrip` has the two of the whole file and `Places` what a caller of `read` leans on; the others carry the
+-- code to the definitions. They assume nothing.
 pub mod Answers
+pub mod Placed
 pub mod RoundTrip
 pub mod Places
-pub mod Sizes
-pub mod Puts

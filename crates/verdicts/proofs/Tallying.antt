@@ -74,7 +74,7 @@ one-more levers forces sum z pulling row hl hf low small has eh c =
       pulling-le = omega (arith, c .pulling-le, eh, either-le (eqb f 0));
     })
 
-pulling-le-length : (forces : List ℕ) → pullingRows forces ≤ length forces
+pub pulling-le-length : (forces : List ℕ) → pullingRows forces ≤ length forces
 unfolding pullingRows
 pulling-le-length [] = omega arith
 pulling-le-length (x ∷ xs) = omega (arith, either-le (eqb x 0), pulling-le-length xs)

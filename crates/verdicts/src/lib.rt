@@ -35,7 +35,7 @@ pub struct Tally {
 
 pub fn tally_forces(rows: usize, levers: [u32; 8], forces: [u64; 8]) -> Tally
     requires { ⌜ (rows ≤ 8) × ((k : ℕ) → getD levers k 0 ≤ 20000) × ((k : ℕ) → getD forces k 0 ≤ 4000000000) ⌝ }
-    ensures { λ r. ⌜ r ≡ tallyOf (take rows levers) (take rows forces) ⌝ }
+    ensures { λ r. ⌜ (r ≡ tallyOf (take rows levers) (take rows forces)) × (r .moment ≤ 1000000000000000) ⌝ }
 {
     let mut sum = 0;
     let mut moment = 0;
