@@ -13,8 +13,9 @@ use lib.Seq.{sets, sets-eq}
 use Rattle.outcome.specs.declared.Outcome.{Outcome}
 use Rattle.line.specs.Digits.{decimal}
 use Rattle.line.specs.Line.{spaced, letter, lettersOf, figuresOf, rowForces, resultLine, refusalLine, toldOf, outcomeLine, placedTo, noRoom, placed}
-use Rattle.line.specs.Put.{Put}
-use Rattle.line.proofs.Numerals.{split, decimal-short}
+use Rattle.numbers.specs.Run.{Put}
+use Rattle.numbers.proofs.Groups.{split}
+use Rattle.line.proofs.Numerals.{decimal-short}
 use Rattle.line.proofs.Puts.{items, items-append, items-short, letters-size, spaced-append}
 
 pub room : (end at size : ℕ) → at ≤ end → leb size (end - at) ≡ leb (at + size) end

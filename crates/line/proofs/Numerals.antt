@@ -3,22 +3,15 @@
 use Prim.Native.Nat.{ℕ, zero, suc, _+_, _/_, _%_, _^_, _*_, _≤_, _<_}
 use mathlib.Core.Path.{_≡_, refl}
 use mathlib.Core.List.{List, [], _∷_, _++_}
-use mathlib.Core.Bool.{Bool, true, false, cond}
-use mathlib.Core.Logic.{_⊎_, inl, inr, ⊎-elim}
+use mathlib.Core.Logic.{⊎-elim}
 use native.Mathlib.Omega.{arith}
 use native.Mathlib.Nat.{pow-suc}
-use borrow.Author.Tests.{lt-ltb, le-ltb, le-leb, lt-leb, ltb-true, ltb-false}
-use lib.Dec.{leb, ltb}
+use borrow.Author.Tests.{lt-ltb, le-ltb, le-leb, lt-leb}
+use lib.Dec.{leb}
 use lib.ListN.{length, length-append}
 use mir.Val.{boolByte}
+use Rattle.numbers.proofs.Groups.{split}
 use Rattle.line.specs.Digits.{digit, digits, decimal}
-
-pub split : (x y : ℕ) → (x < y) ⊎ (y ≤ x)
-split x y = go (ltb x y) refl
-  where
-    go : (t : Bool) → ltb x y ≡ t → (x < y) ⊎ (y ≤ x)
-    go true e = inl (ltb-true x y e)
-    go false e = inr (ltb-false x y e)
 
 digits-last : (most n : ℕ) → n < 10 → digits (suc most) n ≡ digit n ∷ []
 unfolding digits
@@ -78,10 +71,6 @@ count-four n small more =
       count-more (n / 10 / 10) (omega arith) (omega arith),
       count-more (n / 10 / 10 / 10) (omega arith) (omega arith),
     ))
-
-pub bit-small : (b : Bool) → boolByte b ≤ 1
-bit-small true = omega arith
-bit-small false = omega arith
 
 pub count-few : (n : ℕ) → n < 10000 → length (decimal n) ≡ 1 + boolByte (leb 10 n) + boolByte (leb 100 n) + boolByte (leb 1000 n)
 count-few n small =

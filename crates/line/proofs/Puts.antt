@@ -10,14 +10,9 @@ use lib.ListN.{length, getD, take, drop, set, length-set, length-append, take-ap
 use lib.Seq.{sets, length-sets, set-comm, take-suc, take-all, drop-cons}
 use Rattle.line.specs.Digits.{digit, decimal}
 use Rattle.line.specs.Line.{spaced, letter}
-use Rattle.line.specs.Put.{Put}
+use Rattle.numbers.specs.Run.{Put}
+use Rattle.numbers.proofs.Puts.{sets-append}
 use Rattle.line.proofs.Numerals.{decimal-last, decimal-more, decimal-short, count-positive}
-
-pub sets-append : (l : List ℕ) (i : ℕ) (xs ys : List ℕ) → sets l i (xs ++ ys) ≡ sets (sets l i xs) (i + length xs) ys
-sets-append l i [] ys = rw add-zero
-sets-append l i (x ∷ xs) ys =
-    let place : i + suc (length xs) ≡ suc i + length xs = omega arith in
-    rw place (sets-append (set l i x) (suc i) xs ys)
 
 -- the last of a run may be stored before the others
 sets-last : (l : List ℕ) (i : ℕ) (xs : List ℕ) (y : ℕ) → sets l i (xs ++ (y ∷ [])) ≡ sets (set l (i + length xs) y) i xs

@@ -7,7 +7,7 @@ ghost use Prim.Native.Nat.{_+_, _≤_};
 ghost use lib.ListN.{length};
 ghost use Rattle.line.specs.Digits.{decimal};
 ghost use Rattle.line.specs.Line.{spaced, letter};
-ghost use Rattle.line.specs.Put.{Put};
+ghost use Rattle.numbers.specs.Run.{Put};
 
 // The count of bytes that numbers take as items. The bound keeps it in range.
 pub fn numbers_size(numbers: &[u64]) -> usize

@@ -17,7 +17,7 @@ ghost use lib.Dec.{leb};
 ghost use lib.ListN.{length};
 ghost use Rattle.line.specs.Digits.{decimal};
 ghost use Rattle.line.specs.Line.{spaced, checkLetter, verdictLetter, lettersOf, rowForces, resultLine, refusalLine, outcomeLine, placed, writtenTold};
-ghost use Rattle.line.specs.Put.{Put};
+ghost use Rattle.numbers.specs.Run.{Put};
 
 // What putting a line answers: the place after it, or that there is no room for it.
 pub enum Written {

@@ -6,7 +6,7 @@ use denote.Ref.{now}
 use lib.ListN.{length}
 use Rattle.line.specs.Digits.{decimal}
 use Rattle.line.specs.Line.{letter, lettersOf, figuresOf}
-use Rattle.line.specs.Put.{Put}
+use Rattle.numbers.specs.Run.{Put}
 use Rattle.line.proofs.Puts.{items, put-both, put-byte, put-length, room-first, room-after}
 use Rattle.line.proofs.Lines.{opening, result-parts}
 use borrow.Author.Needs.{needs}

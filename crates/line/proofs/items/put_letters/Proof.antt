@@ -6,7 +6,7 @@ use native.Mathlib.Omega.{arith}
 use denote.Ref.{now}
 use lib.ListN.{length, take, length-set}
 use Rattle.line.specs.Line.{spaced, letter}
-use Rattle.line.specs.Put.{Put}
+use Rattle.numbers.specs.Run.{Put}
 use Rattle.line.proofs.Puts.{items, items-room, items-more, items-all, put-none, put-byte-to, put-length}
 use Rattle.line.proofs.items.put_letters.Statement.{statement}
 use Rattle.line.proofs.items.put_letters.Tie as tie

@@ -7,7 +7,7 @@ use denote.Ref.{now}
 use lib.ListN.{length, take, length-set}
 use Rattle.line.specs.Digits.{decimal}
 use Rattle.line.specs.Line.{spaced}
-use Rattle.line.specs.Put.{Put}
+use Rattle.numbers.specs.Run.{Put}
 use Rattle.line.proofs.Puts.{items, items-room, items-more, items-all, put-none, put-length}
 use Rattle.line.proofs.items.put_numbers.Statement.{statement}
 use Rattle.line.proofs.items.put_numbers.Tie as tie

@@ -6,7 +6,8 @@ use native.Mathlib.Omega.{arith}
 use lib.Dec.{leb}
 use lib.ListN.{length}
 use Rattle.line.specs.Digits.{decimal}
-use Rattle.line.proofs.Numerals.{decimal-short, count-four, count-few, bit-small}
+use Rattle.numbers.proofs.Sizes.{bit-small}
+use Rattle.line.proofs.Numerals.{decimal-short, count-four, count-few}
 use Rattle.line.proofs.number.digit_count.Statement.{statement}
 use Rattle.line.proofs.number.digit_count.Tie as tie
 
