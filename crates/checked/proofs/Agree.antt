@@ -25,8 +25,11 @@ use Rattle.verdicts.specs.Welds.{topRows, flangeWeldBy, webWeldPasses}
 use Rattle.work.specs.Refusals.{leversFall, rowsInPlace, tooTight, overCompressed}
 use Rattle.work.specs.Joint.{governingOf, capOf, forcesOf}
 use Rattle.work.specs.Work.{resultOf, fromThickness, fromLevers, worked}
+use Rattle.line.specs.Digits.{digits}
+use Rattle.line.specs.Line.{spaced, resultLine, refusalLine, outcomeLine}
+use Rattle.sheets.specs.Sheet.{linesWithin, sheetLines, joined as lines}
 use Rattle.checked.specs.Checked.{Checked, table}
 
 pub all-agree : map (λ (c : Checked). c .given) table ≡ map (λ (c : Checked). c .stated) table
-unfolding table search-from leverFields fixedFields fieldsOf firstOutside fieldCheck groups readGroups readNumbers storedAll jointOf axialOf storedAxial fileFields readOthers readJoint fileOf groupsAbove groupCount listed joined least lowered nextForce forcesDownTo shared moment newtonMetres noneAbove eightPlaces allocated steelStrength steelBearing weldStrength boltArea boltTension boltShear boltBearing boltUltimate pairTension thicknessLimit tooThick bothTooThick bending webTension columnFlangeBending endPlateBending endPlateLimits columnWebTension beamWebLimits groupLimit bearingLength beamFlange webBearing bucklingLimit webBuckling panelShear lesser governingCheck carries bearing idlePair pullingPair boltTotal boltsPass topRows flangeWeldBy webWeldPasses leversFall rowsInPlace tooTight overCompressed governingOf capOf forcesOf resultOf fromThickness fromLevers worked
+unfolding table search-from leverFields fixedFields fieldsOf firstOutside fieldCheck groups readGroups readNumbers storedAll jointOf axialOf storedAxial fileFields readOthers readJoint fileOf groupsAbove groupCount listed joined least lowered nextForce forcesDownTo shared moment newtonMetres noneAbove eightPlaces allocated steelStrength steelBearing weldStrength boltArea boltTension boltShear boltBearing boltUltimate pairTension thicknessLimit tooThick bothTooThick bending webTension columnFlangeBending endPlateBending endPlateLimits columnWebTension beamWebLimits groupLimit bearingLength beamFlange webBearing bucklingLimit webBuckling panelShear lesser governingCheck carries bearing idlePair pullingPair boltTotal boltsPass topRows flangeWeldBy webWeldPasses leversFall rowsInPlace tooTight overCompressed governingOf capOf forcesOf resultOf fromThickness fromLevers worked digits spaced resultLine outcomeLine linesWithin sheetLines lines
 all-agree = refl

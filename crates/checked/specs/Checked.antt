@@ -1,9 +1,9 @@
 -- The checked joints of document 01: for each, what the definitions give and what the paper states.
 -- Assumes nothing.
-use Prim.Native.Nat.{ℕ, _*_, _/_}
-use mathlib.Core.Bool.{Bool, true, false, cond}
+use Prim.Native.Nat.{ℕ}
+use mathlib.Core.Bool.{cond}
 use mathlib.Core.List.{List, [], _∷_, _++_}
-use lib.ListN.{take, length}
+use lib.ListN.{take}
 use lib.IntN.{ℤ, pos}
 use Rattle.joint.specs.declared.Joint.{Joint}
 use Rattle.joint.specs.declared.Column.{Column}
@@ -19,10 +19,9 @@ use Rattle.strength.specs.Thickness.{thicknessLimit, tooThick}
 use Rattle.tension.specs.Spacing.{effectiveEdge}
 use Rattle.tension.specs.Bending.{effectiveLength, bending}
 use Rattle.tension.specs.Web.{webTension}
-use Rattle.compression.specs.Compression.{forceOf, webBuckling}
-use Rattle.compression.specs.declared.CompressionCheck.{CompressionCheck}
-use Rattle.compression.specs.declared.CompressionCheck.the-variants.{Flange, Bearing, Buckling, Panel}
+use Rattle.compression.specs.Compression.{webBuckling}
 use Rattle.work.specs.Work.{worked}
+use Rattle.sheets.specs.Sheet.{sheetOf}
 
 pub record Checked : Type 0 where
   pub given : List ℕ
@@ -104,33 +103,16 @@ joint-I axial = record {
   };
 }
 
--- the check's letter, and P or F, as they are printed
-letter : CompressionCheck → ℕ
-letter (Flange force) = 0x46
-letter (Bearing force) = 0x42
-letter (Buckling force) = 0x4B
-letter (Panel force) = 0x53
+-- I's file
+file-I : List ℕ
+file-I = file (joint-I (pos 0))
 
-verdict : Bool → ℕ
-verdict true = 0x50
-verdict false = 0x46
-
--- every item of the printed line after the joint's number: rows, forces, sum, newton metres, cap, check and four verdicts
-items : Joint → List ℕ
-unfolding letter verdict
-items joint =
-    let result = worked joint in
-    let v = result .verdicts in
-    (joint .face .rows ∷ take (joint .face .rows) (result .forces))
-    ++ (result .sum ∷ result .«newton_metres» ∷ result .cap ∷ letter (result .check)
-    ∷ verdict (v .bending) ∷ verdict (v .bolts) ∷ verdict (v .«flange_weld») ∷ verdict (v .«web_weld») ∷ [])
-
--- 1 219345 219345 52642 407706 K P P P P
+-- what the sheet program prints of it, in ASCII: `1 1 219345 219345 52642 407706 K P P P P` and a line feed
 checked-I : Checked
-unfolding joint-I items
+unfolding joint-I file-I
 checked-I = record {
-  given = items (joint-I (pos 0));
-  stated = 1 ∷ 219345 ∷ 219345 ∷ 52642 ∷ 407706 ∷ 0x4B ∷ 0x50 ∷ 0x50 ∷ 0x50 ∷ 0x50 ∷ [];
+  given = sheetOf file-I;
+  stated = 49 ∷ 32 ∷ 49 ∷ 32 ∷ 50 ∷ 49 ∷ 57 ∷ 51 ∷ 52 ∷ 53 ∷ 32 ∷ 50 ∷ 49 ∷ 57 ∷ 51 ∷ 52 ∷ 53 ∷ 32 ∷ 53 ∷ 50 ∷ 54 ∷ 52 ∷ 50 ∷ 32 ∷ 52 ∷ 48 ∷ 55 ∷ 55 ∷ 48 ∷ 54 ∷ 32 ∷ 75 ∷ 32 ∷ 80 ∷ 32 ∷ 80 ∷ 32 ∷ 80 ∷ 32 ∷ 80 ∷ 10 ∷ [];
 }
 
 -- 'N 407706 gives force 0; 407707 gives 15': refusal, then the first row's force
@@ -142,9 +124,6 @@ unfolding joint-I pushed
 checked-I-pushed = record { given = pushed (pos 407706) ++ pushed (pos 407707); stated = 0 ∷ 0 ∷ 15 ∷ 0 ∷ [] }
 
 -- I's file, read to the joint and written to the same bytes
-file-I : List ℕ
-file-I = file (joint-I (pos 0))
-
 checked-I-file : Checked
 unfolding joint-I file-I
 checked-I-file = record {
