@@ -22,7 +22,7 @@ use Rattle.compression.specs.Compression.{bearingLength, beamFlange, webBearing
 use Rattle.verdicts.specs.Bending.{carries}
 use Rattle.verdicts.specs.Bolts.{bearing, idlePair, pullingPair, boltTotal, boltsPass}
 use Rattle.verdicts.specs.Welds.{topRows, flangeWeldBy, webWeldPasses}
-use Rattle.work.specs.Refusals.{leversFall, rowsInPlace, tooTight, overCompressed}
+use Rattle.refusals.specs.Refusals.{leversFall, rowsInPlace, tooTight, overCompressed}
 use Rattle.work.specs.Joint.{governingOf, capOf, forcesOf}
 use Rattle.work.specs.Work.{resultOf, fromThickness, fromLevers, worked}
 use Rattle.line.specs.Digits.{digits}

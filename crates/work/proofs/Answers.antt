@@ -16,11 +16,12 @@ use Rattle.tension.specs.Admissible.{Admissible}
 use Rattle.tension.specs.declared.Spacing.{Spacing}
 use Rattle.compression.specs.Compression.{forceOf}
 use Rattle.outcome.specs.declared.Outcome.{Outcome}
-use Rattle.work.specs.Refusals.{leversFall, rowsInPlace, tooTight, overCompressed}
+use Rattle.refusals.specs.Refusals.{leversFall, rowsInPlace, tooTight, overCompressed}
 use Rattle.work.specs.Joint.{steelOf, governingOf, capOf}
-use Rattle.work.specs.Work.{capCase, refusedBy, resultOf, fromThickness, fromLevers}
-use Rattle.work.specs.declared.Cap.the-variants.{Newtons, Exceeded}
-use Rattle.work.proofs.Rows.{falls}
+use Rattle.refusals.specs.Cap.{capCase}
+use Rattle.work.specs.Work.{refusedBy, resultOf, fromThickness, fromLevers}
+use Rattle.refusals.specs.declared.Cap.the-variants.{Newtons, Exceeded}
+use Rattle.refusals.proofs.Rows.{falls}
 
 neither : (a b : Bool) → (a || b) ≡ false → (a ≡ false) × (b ≡ false)
 neither false b e = (refl, e)

@@ -1,5 +1,3 @@
-pub mod Rows
-pub mod Capped
 pub mod Forces
 pub mod Answers
 pub mod Best

@@ -1,4 +1,3 @@
-pub mod Refusals
 pub mod Joint
 pub mod Work
 pub mod Demand

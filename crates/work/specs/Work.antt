@@ -3,10 +3,8 @@
 use Prim.Native.Nat.{ℕ}
 use mathlib.Core.Bool.{Bool, false, cond, not}
 use lib.ListN.{replicate}
-use lib.IntN.{pos, natAbs, _-ℤ_}
 use Rattle.joint.specs.Fields.{fieldCheck}
 use Rattle.joint.specs.declared.Joint.{Joint}
-use Rattle.joint.specs.declared.Loads.{Loads}
 use Rattle.joint.specs.declared.FieldCheck.{FieldCheck}
 use Rattle.joint.specs.declared.FieldCheck.the-variants.{AllInRange, Outside}
 use Rattle.sharing.specs.Groups.{total}
@@ -17,10 +15,8 @@ use Rattle.strength.specs.Thickness.{bothTooThick}
 use Rattle.tension.specs.Spacing.{spacingOf}
 use Rattle.compression.specs.Compression.{forceOf}
 use Rattle.compression.specs.declared.CompressionCheck.the-variants.{Flange}
-use Rattle.work.specs.Refusals.{leversFall, rowsInPlace, tooTight, overCompressed}
+use Rattle.refusals.specs.Refusals.{leversFall, rowsInPlace, tooTight, overCompressed}
 use Rattle.work.specs.Joint.{steelOf, governingOf, capOf, forcesOf, momentOf, verdictsOf}
-use Rattle.work.specs.declared.Cap.{Cap}
-use Rattle.work.specs.declared.Cap.the-variants.{Newtons, Exceeded}
 use Rattle.outcome.specs.declared.Outcome.{Outcome}
 use Rattle.outcome.specs.declared.Verdicts.{Verdicts}
 
@@ -52,11 +48,6 @@ resultOf joint =
       check = governingOf joint;
       verdicts = verdictsOf joint forces;
     }
-
--- The tension cap where N isn't above the governing force, by cases: what each case of the enum says.
-unfoldable pub capCase : Loads → (force : ℕ) → Cap
-capCase loads force =
-    cond (overCompressed loads force) Exceeded (Newtons (natAbs (pos force -ℤ loads .axial)))
 
 -- 14 and 15
 unfoldable pub fromThickness : Joint → Outcome

@@ -7,7 +7,7 @@ use borrow.Author.Tests.{not-false}
 use Rattle.joint.proofs.InRange.{lever-most}
 use Rattle.tension.specs.Spacing.{spacingOf}
 use Rattle.tension.specs.Admissible.{Admissible}
-use Rattle.work.specs.Refusals.{leversFall, tooTight}
+use Rattle.refusals.specs.Refusals.{leversFall, tooTight}
 use Rattle.work.specs.Demand.{Demand3}
 use Rattle.work.proofs.Answers.{admissible, refused-by-11, refused-by-12, refused-by-13, passed-13, refusal-is, whole-result}
 use Rattle.work.proofs.Best.{demand}

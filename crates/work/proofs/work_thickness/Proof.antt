@@ -11,7 +11,8 @@ use Rattle.compression.proofs.Least.{parts-in-range, governing-range}
 use Rattle.joint.specs.declared.Joint.{Joint}
 use Rattle.tension.specs.Admissible.{Admissible}
 use Rattle.work.specs.Joint.{steelOf, governingOf, capOf}
-use Rattle.work.specs.Work.{capCase, resultOf, fromThickness}
+use Rattle.refusals.specs.Cap.{capCase}
+use Rattle.work.specs.Work.{resultOf, fromThickness}
 use Rattle.work.proofs.Answers.{refused-by-14, refused-by-15, capped}
 use borrow.Author.Needs.{needs}
 use Rattle.work.proofs.work_thickness.Statement.{statement}

@@ -10,10 +10,10 @@ use Rattle.joint.specs.Axial.{axialForce}
 use Rattle.joint.specs.declared.AxialForce.the-variants.{Compression, Tension}
 use Rattle.joint.specs.declared.Loads.{Loads}
 use Rattle.joint.proofs.Axial.{is-compression, is-tension}
-use Rattle.work.specs.Refusals.{overCompressed}
-use Rattle.work.specs.Work.{capCase}
-use Rattle.work.specs.declared.Cap.{Cap}
-use Rattle.work.specs.declared.Cap.the-variants.{Newtons, Exceeded}
+use Rattle.refusals.specs.Refusals.{overCompressed}
+use Rattle.refusals.specs.Cap.{capCase}
+use Rattle.refusals.specs.declared.Cap.{Cap}
+use Rattle.refusals.specs.declared.Cap.the-variants.{Newtons, Exceeded}
 
 less : (force n : ℕ) → n ≤ force → natAbs (pos force -ℤ pos n) ≡ force - n
 less force zero h = add-zero force ∙ sym (sub-zero force)

@@ -1,8 +1,8 @@
 -- `is_between` meets its contract, by its one test. Assumes nothing.
 use borrow.Author.Tests.{lt-ltb, le-ltb}
 use borrow.Author.Needs.{needs}
-use Rattle.work.proofs.is_between.Statement.{statement}
-use Rattle.work.proofs.is_between.Tie as tie
+use Rattle.refusals.proofs.is_between.Statement.{statement}
+use Rattle.refusals.proofs.is_between.Tie as tie
 
 mul-result : tie.Need-mul-result
 mul-result c = search needs

@@ -1,8 +1,8 @@
 -- `rows_in_place` meets its contract: the bounds are the definition's. Assumes nothing.
-use Rattle.work.specs.Refusals.{rowsInPlace}
+use Rattle.refusals.specs.Refusals.{rowsInPlace}
 use borrow.Author.Needs.{needs}
-use Rattle.work.proofs.rows_in_place.Statement.{statement}
-use Rattle.work.proofs.rows_in_place.Tie as tie
+use Rattle.refusals.proofs.rows_in_place.Statement.{statement}
+use Rattle.refusals.proofs.rows_in_place.Tie as tie
 
 cast-all-between : tie.Need-cast-all-between
 cast-all-between c = search needs

@@ -1,8 +1,8 @@
 -- `too_tight` meets its contract: it is the definition, word for word. Assumes nothing.
 use mathlib.Core.Path.{refl}
-use Rattle.work.specs.Refusals.{tooTight}
-use Rattle.work.proofs.too_tight.Statement.{statement}
-use Rattle.work.proofs.too_tight.Tie as tie
+use Rattle.refusals.specs.Refusals.{tooTight}
+use Rattle.refusals.proofs.too_tight.Statement.{statement}
+use Rattle.refusals.proofs.too_tight.Tie as tie
 
 returns : tie.Need-returns
 unfolding tooTight

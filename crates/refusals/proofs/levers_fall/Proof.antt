@@ -5,10 +5,10 @@ use native.Mathlib.Omega.{arith}
 use mathlib.Core.Bool.{true, false}
 use lib.ListN.{length, take, drop}
 use Rattle.arithmetic.specs.Table.{every}
-use Rattle.work.specs.Refusals.{belowAbove}
-use Rattle.work.proofs.Rows.{row-passes, row-fails, rows-end, below, not-below, first-passes}
-use Rattle.work.proofs.levers_fall.Statement.{statement}
-use Rattle.work.proofs.levers_fall.Tie as tie
+use Rattle.refusals.specs.Refusals.{belowAbove}
+use Rattle.refusals.proofs.Rows.{row-passes, row-fails, rows-end, below, not-below, first-passes}
+use Rattle.refusals.proofs.levers_fall.Statement.{statement}
+use Rattle.refusals.proofs.levers_fall.Tie as tie
 
 abbrev Inv-loop : tie.InvT-loop
 Inv-loop rows levers row₀ row =

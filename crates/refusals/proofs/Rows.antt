@@ -12,7 +12,7 @@ use lib.Dec.{T, ltb, eqb, ltb→lt}
 use borrow.Author.Tests.{lt-ltb, le-ltb, ne-eqb}
 use Rattle.arithmetic.specs.Table.{every}
 use Rattle.arithmetic.proofs.Table.{at}
-use Rattle.work.specs.Refusals.{belowAbove}
+use Rattle.refusals.specs.Refusals.{belowAbove}
 
 module _ (test : ℕ → ℕ → Bool) (n : ℕ) (levers : List ℕ) (few : n ≤ length levers) where
   next : (row : ℕ) → row < n → every test row (drop row (take n levers)) ≡ (test row (getD levers row 0) && every test (row + 1) (drop (row + 1) (take n levers)))

@@ -4,10 +4,10 @@ use mir.Syntax.{w32}
 use mir.Val.{toZ, ofZ}
 use Rattle.joint.specs.Axial.{axialForce}
 use Rattle.joint.specs.declared.AxialForce.the-variants.{Compression, Tension}
-use Rattle.work.proofs.Capped.{exceeded, compressed, pulled}
+use Rattle.refusals.proofs.Capped.{exceeded, compressed, pulled}
 use borrow.Author.Needs.{needs}
-use Rattle.work.proofs.tension_cap.Statement.{statement}
-use Rattle.work.proofs.tension_cap.Tie as tie
+use Rattle.refusals.proofs.tension_cap.Statement.{statement}
+use Rattle.refusals.proofs.tension_cap.Tie as tie
 
 -- which way N goes: it reached the call as its bits, and is read back
 pushes : (c : tie.After-known-told) → axialForce (c .before .before .before .before .before .args .loads .axial) ≡ Compression (c .before .axial .given .0 .0)

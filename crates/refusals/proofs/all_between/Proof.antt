@@ -5,10 +5,10 @@ use native.Mathlib.Omega.{arith}
 use lib.ListN.{take, drop}
 use borrow.Author.Tests.{not-true, not-false}
 use Rattle.arithmetic.specs.Table.{every}
-use Rattle.work.specs.Refusals.{between}
-use Rattle.work.proofs.Rows.{row-passes, row-fails, rows-end}
-use Rattle.work.proofs.all_between.Statement.{statement}
-use Rattle.work.proofs.all_between.Tie as tie
+use Rattle.refusals.specs.Refusals.{between}
+use Rattle.refusals.proofs.Rows.{row-passes, row-fails, rows-end}
+use Rattle.refusals.proofs.all_between.Statement.{statement}
+use Rattle.refusals.proofs.all_between.Tie as tie
 
 abbrev Inv-loop : tie.InvT-loop
 Inv-loop rows first over under levers row₀ row =

@@ -1,0 +1,104 @@
+// Work's refusals after 10, asked one at a time: levers that fall, rows in place, room about the bolts, and the cap. Rows count from 0.
+// Work calls these for joints whose fields are in range.
+ghost use mathlib.Core.Path.{_≡_};
+ghost use Prim.Native.Nat.{ℕ, _≤_};
+ghost use lib.ListN.{length, getD, take};
+ghost use Rattle.arithmetic.specs.Table.{every};
+ghost use Rattle.joint.specs.InRange.{LoadsInRange};
+ghost use Rattle.refusals.specs.Refusals.{belowAbove, between, rowsInPlace, tooTight, PlacesInRange};
+ghost use Rattle.refusals.specs.Cap.{capCase};
+use joint::AxialForce;
+use joint::Face;
+use joint::Loads;
+use tension::Spacing;
+
+// The tension cap in newtons, or that N is above the governing force.
+pub enum Cap {
+    Newtons(u64),
+    Exceeded,
+}
+
+// Every lever but the first is below the one above it. (A list of eight levers has eight: said for the caller's sake.)
+pub fn levers_fall(rows: usize, levers: [u32; 8]) -> bool
+    requires { ⌜ rows ≤ 8 ⌝ }
+    ensures { λ r. ⌜ (r ≡ every (belowAbove levers) 0 (take rows levers)) × (length levers ≡ 8) ⌝ }
+{
+    let mut row = 1;
+    while row < rows {
+        if levers[row - 1] <= levers[row] {
+            return false;
+        }
+        row += 1;
+    }
+    true
+}
+
+// Extended row 1 stands over the beam, every other row under its flange.
+pub fn rows_in_place(face: Face) -> bool
+    requires { ⌜ PlacesInRange face ⌝ }
+    ensures { λ r. ⌜ r ≡ rowsInPlace face ⌝ }
+{
+    let levers = face.levers;
+    let depth = face.beam.depth;
+    let flange = face.beam.flange;
+    all_between(
+        face.rows as usize,
+        levers,
+        face.extended as usize,
+        2 * depth - flange,
+        2 * depth - 3 * flange,
+    )
+}
+
+// Twice each lever: over the one bound above the first row under the flange, under the other from there on.
+fn all_between(rows: usize, levers: [u32; 8], first: usize, over: u32, under: u32) -> bool
+    requires { ⌜ (rows ≤ 8) × ((k : ℕ) → getD levers k 0 ≤ 20000) ⌝ }
+    ensures { λ r. ⌜ r ≡ every (between first over under) 0 (take rows levers) ⌝ }
+{
+    let mut row = 0;
+    while row < rows {
+        if !is_between(row, first, over, under, levers[row]) {
+            return false;
+        }
+        row += 1;
+    }
+    true
+}
+
+fn is_between(row: usize, first: usize, over: u32, under: u32, lever: u32) -> bool
+    requires { ⌜ lever ≤ 20000 ⌝ }
+    ensures { λ r. ⌜ r ≡ between first over under row lever ⌝ }
+{
+    if row < first {
+        over < 2 * lever
+    } else {
+        2 * lever < under
+    }
+}
+
+pub fn too_tight(extended: u32, spacing: Spacing) -> bool
+    ensures { λ r. ⌜ r ≡ tooTight extended spacing ⌝ }
+{
+    (spacing.column < 500)
+        | ((spacing.plate < 500)
+            | (((extended == 1) & (spacing.extension < 500))
+                | ((spacing.column_edge < 1000) | (spacing.plate_edge < 1000))))
+}
+
+// Refusal 15 and the cap, by the sign of N.
+pub fn tension_cap(force: u64, loads: Loads) -> Cap
+    requires { ⌜ (force ≤ 10000000) × LoadsInRange loads ⌝ }
+    ensures { λ r. ⌜ r ≡ capCase loads force ⌝ }
+{
+    let axial = joint::axial_force(loads.axial);
+    match axial {
+        AxialForce::Compression(n) => {
+            if force < (n as u64) {
+                Cap::Exceeded
+            } else {
+                Cap::Newtons(force - (n as u64))
+            }
+        }
+        AxialForce::Tension(n) => Cap::Newtons(force + (n as u64)),
+    }
+}
