@@ -54,3 +54,8 @@ within-either false a b c d x = refl
 -- from a bound above alone
 pub atMost : {x n : ℕ} → x ≤ n → Within (0 to n) x
 atMost h = record { low = zero-le; high = h }
+
+-- either of two numbers, by a test
+pub cond-le : (test : Bool) (a b most : ℕ) → a ≤ most → b ≤ most → cond test a b ≤ most
+cond-le true a b most p q = p
+cond-le false a b most p q = q

@@ -1,3 +1,4 @@
 pub mod Bounds
 pub mod Table
 pub mod Greatest
+pub mod Store

@@ -4,6 +4,8 @@ use mathlib.Core.Path.{_≡_, refl, sym, ap, _∙_}
 use Prim.Native.Nat.{ℕ, suc}
 use native.Mathlib.Omega.{arith}
 use lib.IntN.{ℤ, pos, negsuc, natAbs}
+use mir.Syntax.{w32}
+use mir.Val.{toZ, ofZ}
 use Rattle.joint.specs.Axial.{axialForce}
 use Rattle.joint.specs.declared.AxialForce.{AxialForce}
 use Rattle.joint.specs.declared.AxialForce.the-variants.{Compression, Tension}
@@ -23,3 +25,8 @@ size-of-compression z n e = sym (ap natAbs (is-compression z n e))
 
 pub size-of-tension : (z : ℤ) (n : ℕ) → axialForce z ≡ Tension n → n ≡ natAbs z
 size-of-tension z n e = let m = is-tension z n e in m .1 ∙ sym (ap natAbs (m .2))
+
+-- a force that reached a call as its bits is read back as itself, so the case that the call found is the force's
+pub case-of : (z : ℤ) → toZ w32 (ofZ w32 z) ≡ z → (found case : AxialForce) → found ≡ axialForce (toZ w32 (ofZ w32 z)) → found ≡ case
+    → axialForce z ≡ case
+case-of z back found case told is = ap axialForce (sym back) ∙ sym told ∙ is

@@ -5,11 +5,11 @@ use mathlib.Core.Logic.{⊎-elim}
 use Prim.Native.Nat.{ℕ, zero, suc, _+_, _-_, _≤_, _<_, zero-le}
 use native.Mathlib.Nat.{le-refl, le-trans, le-suc-iff, sub-self}
 use native.Mathlib.Numerals.{add-one}
-use native.Mathlib.Decide.{decLe}
 use native.Mathlib.Omega.{arith}
 use mathlib.Core.List.{List}
 use lib.ListN.{length, getD, set, length-set, replicate}
 use lib.Seq.{getD-set-same, getD-set-other}
+use Rattle.arithmetic.proofs.Store.{store-keeps}
 use Rattle.sharing.specs.Groups.{Table, groupsAbove, groupCount, listed}
 use Rattle.sharing.proofs.Places.{groups-inside, all-groups, group-count-le, one-group-a-place}
 use Rattle.tension.specs.Admissible.{Filled}
@@ -62,19 +62,6 @@ module _ (n : ℕ) (limit : Table) (few : n ≤ 8) where
           ∙ λ t. limit (sym (same .0) t) (sym (same .1) t))
           (le-suc-iff .0 before)
 
-      bounded-after : (k : ℕ) → getD (set table next stored) k 0 ≤ 4000000000
-      bounded-after k =
-          elim (decLe k next) [
-            | yes p ↦ at-most (decLe next k) p
-            | no p ↦ rw (getD-set-other table next k stored 0 (omega arith)) (f .bounded k)
-          ]
-        where
-          at-most : Dec (next ≤ k) → k ≤ next → getD (set table next stored) k 0 ≤ 4000000000
-          at-most (yes q) p =
-              let same : k ≡ next = omega arith in
-              rw (same, getD-set-same table next stored 0 (omega (arith, f .size, next-inside))) small
-          at-most (no q) p = rw (getD-set-other table next k stored 0 (omega arith)) (f .bounded k)
-
       -- the group of one row more
       pub along : j + 1 < n → FilledTo n limit (set table next stored) (next + 1) i (j + 1)
       along inside =
@@ -86,7 +73,7 @@ module _ (n : ℕ) (limit : Table) (few : n ≤ 8) where
             group = omega (arith, f .group);
             inside = λ h. inside;
             agrees = agrees-after;
-            bounded = bounded-after;
+            bounded = store-keeps 4000000000 table next stored (f .bounded) small;
           })
 
       -- the first group of the next row
@@ -101,7 +88,7 @@ module _ (n : ℕ) (limit : Table) (few : n ≤ 8) where
             group = le-refl (suc i);
             inside = λ h. h;
             agrees = agrees-after;
-            bounded = bounded-after;
+            bounded = store-keeps 4000000000 table next stored (f .bounded) small;
           })
 
   pub finish : (table : List ℕ) (next i j : ℕ) → FilledTo n limit table next i j → n ≤ i → Filled n limit table

@@ -9,7 +9,7 @@ use native.Mathlib.Omega.{arith}
 use lib.Dec.{T, eqb, ltb}
 use lib.ListN.{getD}
 use Rattle.arithmetic.specs.Range.{Within, _to_}
-use Rattle.arithmetic.proofs.Bounds.{exactly, _⊗_, _⊕_, _⊘_, loosen}
+use Rattle.arithmetic.proofs.Bounds.{exactly, _⊗_, _⊕_, _⊘_, loosen, cond-le}
 use Rattle.joint.specs.declared.Joint.{Joint}
 use Rattle.joint.proofs.InRange.{lever-most}
 use Rattle.strength.specs.Steel.{steelStrengths}
@@ -23,12 +23,8 @@ use Rattle.tension.specs.Admissible.{Admissible, Measured, Levers}
 use Rattle.tension.specs.declared.Spacing.{Spacing}
 use Rattle.tension.specs.declared.Dimensions.{Dimensions}
 
-either-le : (test : Bool) (a b most : ℕ) → a ≤ most → b ≤ most → cond test a b ≤ most
-either-le true a b most p q = p
-either-le false a b most p q = q
-
 pub plate-side-le : (d : Dimensions) → DimensionsWithin d → (i : ℕ) → plateSideBy d i ≤ 120000
-plate-side-le d w i = either-le (eqb i (d .first)) _ _ 120000 (w .near-flange .high) (omega (arith, w .plate-lengths .side .high))
+plate-side-le d w i = cond-le (eqb i (d .first)) _ _ 120000 (w .near-flange .high) (omega (arith, w .plate-lengths .side .high))
 
 pub stub-within : (m edge t y W : ℕ) → StubParts m edge t y W → StubWithin (stubOf m (min edge (5 * m / 4)) t y W)
 stub-within m edge t y W p =

@@ -8,6 +8,7 @@ use native.Mathlib.Omega.{arith}
 use mathlib.Core.List.{List, [], _∷_, _++_}
 use lib.Dec.{ltb, eqb}
 use borrow.Author.Tests.{ltb-true, ne-eqb}
+use Rattle.arithmetic.proofs.Bounds.{cond-le}
 use Rattle.joint.specs.declared.Column.{Column}
 use Rattle.joint.specs.declared.Bolts.{Bolts}
 use Rattle.joint.specs.declared.Face.{Face}
@@ -114,18 +115,14 @@ module _ (joint : Joint) (spacing : Spacing) (steel : SteelStrengths) (pair : �
       (bending-worked _ _ _ _ _ _ _)
 
 -- A limit is at most the bolts' own.
-less : (test : Bool) (a b x : ℕ) → a ≤ x → b ≤ x → cond test a b ≤ x
-less true a b x p q = p
-less false a b x p q = q
-
 module _ (d : Dimensions) (i k s : ℕ) where
   webs-le : (limit : ℕ) → websBy d i s limit ≤ limit
   unfolding websBy
-  webs-le limit = less (ltb (d .first) i) _ _ limit (le-trans (min-le-left _ _) (min-le-left _ _)) (min-le-left _ _)
+  webs-le limit = cond-le (ltb (d .first) i) _ _ limit (le-trans (min-le-left _ _) (min-le-left _ _)) (min-le-left _ _)
 
   plate-le : (limit : ℕ) → plateBy d i k s limit ≤ limit
   unfolding plateBy
-  plate-le limit = less (ltb i (d .first)) _ _ limit (less (eqb k 1) _ _ limit (min-le-left _ _) (le-refl limit)) (min-le-left _ _)
+  plate-le limit = cond-le (ltb i (d .first)) _ _ limit (cond-le (eqb k 1) _ _ limit (min-le-left _ _) (le-refl limit)) (min-le-left _ _)
 
   limit-le : limitBy d i k s ≤ k * d .pair
   unfolding limitBy columnBy bendingBy

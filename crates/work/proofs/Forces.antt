@@ -3,13 +3,13 @@
 use mathlib.Core.Path.{_≡_, refl, sym, ap, ap₂, _∙_}
 use mathlib.Core.Bool.{Bool, true, false, cond, _&&_}
 use Prim.Native.Nat.{ℕ, zero, suc, _+_, _-_, _≤_, _<_, min}
-use native.Mathlib.Decide.{decLe}
 use native.Mathlib.Omega.{arith}
 use mathlib.Core.List.{List}
 use lib.ListN.{length, getD, set, take, replicate, length-set}
 use lib.Seq.{getD-set-same, getD-set-other, take-at}
 use lib.Dec.{eqb}
 use borrow.Author.Tests.{eqb-true, eqb-false}
+use Rattle.arithmetic.proofs.Store.{store-keeps}
 use Rattle.sharing.specs.Groups.{Table, groupsAbove, listed, joined}
 use Rattle.sharing.specs.Sharing.{shared}
 use Rattle.sharing.proofs.Places.{group-count-le, one-group-a-place}
@@ -67,17 +67,7 @@ module _ (n cap : ℕ) (limit : Table) (table : List ℕ) (filled : Filled n lim
   forces-agree = shared-agrees _ _ n agrees
 
   bounded : (k : ℕ) → getD (set table (n - 1) stored) k 0 ≤ 4000000000
-  bounded k =
-      elim (decLe k (n - 1)) [
-        | yes p ↦ at-most (decLe (n - 1) k) p
-        | no p ↦ rw (getD-set-other table (n - 1) k stored 0 (omega arith)) (filled .bounded k)
-      ]
-    where
-      at-most : Dec (n - 1 ≤ k) → k ≤ n - 1 → getD (set table (n - 1) stored) k 0 ≤ 4000000000
-      at-most (yes q) p =
-          let same : k ≡ n - 1 = omega arith in
-          rw (same, getD-set-same table (n - 1) stored 0 inside) (omega (arith, lower, filled .bounded (n - 1)))
-      at-most (no q) p = rw (getD-set-other table (n - 1) k stored 0 (omega arith)) (filled .bounded k)
+  bounded = store-keeps 4000000000 table (n - 1) stored (filled .bounded) (omega (arith, lower, filled .bounded (n - 1)))
 
   pub shareable : Shareable n (set table (n - 1) stored)
   shareable =

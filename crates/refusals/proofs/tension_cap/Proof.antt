@@ -1,26 +1,19 @@
 -- `tension_cap` meets its contract: the cap's cases by the sign of N (the laws of `Capped`). Assumes nothing.
 use mathlib.Core.Path.{_≡_, refl, sym, ap, _∙_}
-use mir.Syntax.{w32}
-use mir.Val.{toZ, ofZ}
 use Rattle.joint.specs.Axial.{axialForce}
+use Rattle.joint.proofs.Axial.{case-of}
 use Rattle.joint.specs.declared.AxialForce.the-variants.{Compression, Tension}
 use Rattle.refusals.proofs.Capped.{exceeded, compressed, pulled}
 use borrow.Author.Needs.{needs}
 use Rattle.refusals.proofs.tension_cap.Statement.{statement}
 use Rattle.refusals.proofs.tension_cap.Tie as tie
 
--- which way N goes: it reached the call as its bits, and is read back
+-- which way N goes
 pushes : (c : tie.After-known-told) → axialForce (c .before .before .before .before .before .args .loads .axial) ≡ Compression (c .before .axial .given .0 .0)
-pushes c =
-    let force = c .before .before .before .before .before .args .loads .axial in
-    let back : toZ w32 (ofZ w32 force) ≡ force = search needs in
-    ap axialForce (sym back) ∙ sym (c .before .before .before .axial-force .ensures) ∙ c .before .axial .given .1
+pushes c = case-of _ (search needs) _ _ (c .before .before .before .axial-force .ensures) (c .before .axial .given .1)
 
 pulls : (c : tie.After-known-told2) → axialForce (c .before .before .before .before .before .args .loads .axial) ≡ Tension (c .before .axial2 .given .0 .0)
-pulls c =
-    let force = c .before .before .before .before .before .args .loads .axial in
-    let back : toZ w32 (ofZ w32 force) ≡ force = search needs in
-    ap axialForce (sym back) ∙ sym (c .before .before .before .axial-force .ensures) ∙ c .before .axial2 .given .1
+pulls c = case-of _ (search needs) _ _ (c .before .before .before .axial-force .ensures) (c .before .axial2 .given .1)
 
 axial-force-requires : tie.Need-axial-force-requires
 axial-force-requires c κs = search needs

@@ -4,28 +4,20 @@ use mathlib.Core.Path.{_≡_, refl, sym, ap, _∙_}
 use Prim.Native.Nat.{ℕ, _+_, _-_, _*_, _≤_}
 use native.Mathlib.Nat.{mul-le-mul}
 use native.Mathlib.Omega.{arith}
-use mir.Syntax.{w32}
-use mir.Val.{toZ, ofZ}
 use Rattle.joint.specs.Axial.{axialForce}
 use Rattle.joint.specs.declared.AxialForce.the-variants.{Compression, Tension}
-use Rattle.joint.proofs.Axial.{size-of-compression, size-of-tension}
+use Rattle.joint.proofs.Axial.{case-of, size-of-compression, size-of-tension}
 use Rattle.verdicts.proofs.Signs.{compressed, pulled}
 use borrow.Author.Needs.{needs}
 use Rattle.verdicts.proofs.carries_moment.Statement.{statement}
 use Rattle.verdicts.proofs.carries_moment.Tie as tie
 
--- which way N goes: it reached the call as its bits, and is read back
+-- which way N goes
 compression : (c : tie.After-known-told) → axialForce (c .before .before .before .before .before .before .before .args .loads .axial) ≡ Compression (c .before .axial .given .0 .0)
-compression c =
-    let force = c .before .before .before .before .before .before .before .args .loads .axial in
-    let back : toZ w32 (ofZ w32 force) ≡ force = search needs in
-    ap axialForce (sym back) ∙ sym (c .before .before .before .axial-force .ensures) ∙ c .before .axial .given .1
+compression c = case-of _ (search needs) _ _ (c .before .before .before .axial-force .ensures) (c .before .axial .given .1)
 
 tension : (c : tie.After-known-told2) → axialForce (c .before .before .before .before .before .before .before .args .loads .axial) ≡ Tension (c .before .axial2 .given .0 .0)
-tension c =
-    let force = c .before .before .before .before .before .before .before .args .loads .axial in
-    let back : toZ w32 (ofZ w32 force) ≡ force = search needs in
-    ap axialForce (sym back) ∙ sym (c .before .before .before .axial-force .ensures) ∙ c .before .axial2 .given .1
+tension c = case-of _ (search needs) _ _ (c .before .before .before .axial-force .ensures) (c .before .axial2 .given .1)
 
 -- the product of N and the arm
 product-le : (n depth flange : ℕ) → n ≤ 10000000 → depth ≤ 15000 → n * (depth - flange) ≤ 150000000000
