@@ -21,7 +21,7 @@ same-length : tie.Need-same-length
 same-length c = search needs
 
 returns : tie.Need-returns
-returns c = 
+returns c =
     let start = c .before .before .before .before .before .before .before .before .before in
     whole-told (now (start .args .input)) (now (start .args .output)) (c .before .before .before .before .before .sheet .last .1 .0)
     (λ k. c .before .before .before .before .before .before .before .before .shared-slice-known .given k .fits) (start .pre) (c .before .printed .given .0 .0)
@@ -31,7 +31,7 @@ same-length-2 : tie.Need-same-length-2
 same-length-2 c = search needs
 
 returns-2 : tie.Need-returns-2
-returns-2 c = 
+returns-2 c =
     let start = c .before .before .before .before .before .before .before .before in
     absurd
     (cut-never (now (start .args .input)) (now (start .args .output)) (c .before .before .before .before .sheet .last .1 .0)
