@@ -139,9 +139,9 @@ fn put_result(buffer: &mut [u8], from: usize, number: u64, rows: u32, outcome: O
     let letters = letters_of(outcome);
     let after_rows = put_rows(buffer, from, number, rows, forces);
     let after_figures = put_numbers(buffer, after_rows, &figures);
-    let end = put_letters(buffer, after_figures, &letters);
-    buffer[end] = b'\n';
-    end + 1
+    let after_letters = put_letters(buffer, after_figures, &letters);
+    buffer[after_letters] = b'\n';
+    after_letters + 1
 }
 
 // Puts the joint's number, its row count and the forces of its rows.
