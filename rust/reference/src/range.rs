@@ -14,7 +14,11 @@ const LEVER: RangeInclusive<u32> = 1..=20000;
 
 /// The number, from 1, of the first field that is out of its range.
 pub fn first_outside(joint: &Joint) -> Option<u32> {
-    let edge = if joint.is_extended() { 150..=2000 } else { 0..=0 };
+    let edge = if joint.is_extended() {
+        150..=2000
+    } else {
+        0..=0
+    };
     let within = |range: RangeInclusive<u32>, value: u32| range.contains(&value);
     let head = [
         within(1..=ROWS as u32, joint.rows),
@@ -51,8 +55,19 @@ pub fn first_outside(joint: &Joint) -> Option<u32> {
         return Some(place as u32 + 1);
     }
     let rows = joint.row_count();
-    let lever_holds = |(row, &lever): (usize, &u32)| if row < rows { LEVER.contains(&lever) } else { lever == 0 };
-    joint.levers.iter().enumerate().position(|lever| !lever_holds(lever)).map(|row| row as u32 + 30)
+    let lever_holds = |(row, &lever): (usize, &u32)| {
+        if row < rows {
+            LEVER.contains(&lever)
+        } else {
+            lever == 0
+        }
+    };
+    joint
+        .levers
+        .iter()
+        .enumerate()
+        .position(|lever| !lever_holds(lever))
+        .map(|row| row as u32 + 30)
 }
 
 fn is_grade(grade: u32) -> bool {

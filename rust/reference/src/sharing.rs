@@ -20,7 +20,9 @@ pub fn allocate(count: usize, limits: &[u64]) -> Result<[u64; ROWS], AllocateRef
     if !(1..=ROWS).contains(&count) {
         return Err(AllocateRefusal::RowCount);
     }
-    let limits = limits.get(..count * (count + 1) / 2).ok_or(AllocateRefusal::FewLimits)?;
+    let limits = limits
+        .get(..count * (count + 1) / 2)
+        .ok_or(AllocateRefusal::FewLimits)?;
     if limits.iter().any(|&limit| limit > GREATEST_LIMIT) {
         return Err(AllocateRefusal::LimitTooGreat);
     }
@@ -34,7 +36,9 @@ pub fn share(count: usize, limits: &[u64]) -> [u64; ROWS] {
     // sum of the forces above each row
     let mut above = [0; ROWS + 1];
     for row in 0..count {
-        let down_to_row = (0..=row).map(|first| above[first] + lowered[first][row]).min();
+        let down_to_row = (0..=row)
+            .map(|first| above[first] + lowered[first][row])
+            .min();
         above[row + 1] = down_to_row.unwrap_or(0);
         forces[row] = above[row + 1] - above[row];
     }

@@ -82,7 +82,8 @@ pub fn both_too_thick(joint: &Joint, strengths: &Strengths) -> bool {
     let diameter = u64::from(joint.bolt_diameter);
     let most = 10000 * diameter * diameter * strengths.bolt_ultimate;
     let too_thick = |thickness: u32, strength: u64| 361 * square(thickness) * strength > most;
-    too_thick(joint.column_flange, strengths.column) && too_thick(joint.plate_thickness, strengths.plate)
+    too_thick(joint.column_flange, strengths.column)
+        && too_thick(joint.plate_thickness, strengths.plate)
 }
 
 pub fn square(length: u32) -> u64 {

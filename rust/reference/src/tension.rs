@@ -23,7 +23,8 @@ impl Distances {
         let plate_m = 5 * (gauge - signed(joint.beam_web)) - 8 * signed(joint.web_weld);
         let column_e = 5 * (signed(joint.column_width) - gauge);
         let plate_e = 5 * (signed(joint.plate_width) - gauge);
-        let above_flange = 2 * signed(joint.levers[0]) - 2 * signed(joint.beam_depth) + signed(joint.beam_flange);
+        let above_flange =
+            2 * signed(joint.levers[0]) - 2 * signed(joint.beam_depth) + signed(joint.beam_flange);
         let extension_m = 5 * above_flange - 8 * signed(joint.flange_weld);
         let narrow = column_m < 500 || plate_m < 500 || column_e < 1000 || plate_e < 1000;
         if narrow || (joint.is_extended() && extension_m < 500) {
@@ -87,7 +88,11 @@ struct Side {
 
 impl Side {
     fn new(stub: Stub, m: u64, e: u64) -> Side {
-        Side { stub, circular: 6283 * m / 1000, other: 4 * m + 5 * e / 4 }
+        Side {
+            stub,
+            circular: 6283 * m / 1000,
+            other: 4 * m + 5 * e / 4,
+        }
     }
 
     /// `spread` is the group's height in tenths of a millimetre.
@@ -119,7 +124,13 @@ fn extension_limit(joint: &Joint, strengths: &Strengths, distances: &Distances) 
         .min(half_other + e)
         .min(half_other + 5 * gauge)
         .min(5 * u64::from(joint.plate_width));
-    let stub = Stub::new(joint.plate_thickness, strengths.plate, m, edge, strengths.pair_tension);
+    let stub = Stub::new(
+        joint.plate_thickness,
+        strengths.plate,
+        m,
+        edge,
+        strengths.pair_tension,
+    );
     stub.limit(length, 1)
 }
 
@@ -128,9 +139,21 @@ pub fn group_limits(joint: &Joint, strengths: &Strengths, distances: &Distances)
     let rows = joint.row_count();
     let pair = strengths.pair_tension;
     let least_e = distances.column_e.min(distances.plate_e);
-    let column_stub = Stub::new(joint.column_flange, strengths.column, distances.column_m, least_e, pair);
+    let column_stub = Stub::new(
+        joint.column_flange,
+        strengths.column,
+        distances.column_m,
+        least_e,
+        pair,
+    );
     let column = Side::new(column_stub, distances.column_m, distances.column_e);
-    let plate_stub = Stub::new(joint.plate_thickness, strengths.plate, distances.plate_m, least_e, pair);
+    let plate_stub = Stub::new(
+        joint.plate_thickness,
+        strengths.plate,
+        distances.plate_m,
+        least_e,
+        pair,
+    );
     let plate = Side::new(plate_stub, distances.plate_m, distances.plate_e);
     let under_flange = usize::from(joint.is_extended());
     let beside_flange = u64::from(joint.alpha) * distances.plate_m / 100;
@@ -141,17 +164,29 @@ pub fn group_limits(joint: &Joint, strengths: &Strengths, distances: &Distances)
         for last in first..rows {
             let spread = u64::from(joint.levers[first] - joint.levers[last]);
             let count = (last - first + 1) as u64;
-            let mut limit = column
-                .limit(column.other, spread, count)
-                .min(web_tension(joint.gauge, spread, joint.column_web, strengths.column));
+            let mut limit = column.limit(column.other, spread, count).min(web_tension(
+                joint.gauge,
+                spread,
+                joint.column_web,
+                strengths.column,
+            ));
             if first >= under_flange {
-                let other = if first == under_flange { beside_flange } else { plate.other };
+                let other = if first == under_flange {
+                    beside_flange
+                } else {
+                    plate.other
+                };
                 limit = limit.min(plate.limit(other, spread, count));
             } else if last == first {
                 limit = limit.min(extension_limit(joint, strengths, distances));
             }
             if first > under_flange {
-                limit = limit.min(web_tension(joint.gauge, spread, joint.beam_web, strengths.beam));
+                limit = limit.min(web_tension(
+                    joint.gauge,
+                    spread,
+                    joint.beam_web,
+                    strengths.beam,
+                ));
             }
             limits[group] = limit;
             group += 1;

@@ -5,12 +5,18 @@ use crate::outcome::Verdicts;
 use crate::strength::Strengths;
 
 /// `moment` is Z, in newtons times tenths of a millimetre.
-pub fn verdicts(joint: &Joint, strengths: &Strengths, forces: &[u64; ROWS], moment: u64) -> Verdicts {
+pub fn verdicts(
+    joint: &Joint,
+    strengths: &Strengths,
+    forces: &[u64; ROWS],
+    moment: u64,
+) -> Verdicts {
     Verdicts {
         bending: bending_passes(joint, moment),
         bolts: bolts_pass(joint, strengths, forces),
         flange_weld: flange_weld_passes(joint, strengths, forces),
-        web_weld: weld(joint.web_weld, joint.web_weld_length, strengths.weld) >= u64::from(joint.shear),
+        web_weld: weld(joint.web_weld, joint.web_weld_length, strengths.weld)
+            >= u64::from(joint.shear),
     }
 }
 
@@ -21,7 +27,8 @@ fn bending_passes(joint: &Joint, moment: u64) -> bool {
 
 fn bolts_pass(joint: &Joint, strengths: &Strengths, forces: &[u64; ROWS]) -> bool {
     let bearing = |thickness: u32, steel: u64| {
-        u64::from(joint.bolt_diameter) * u64::from(thickness) * steel.min(strengths.bolt_bearing) / 5
+        u64::from(joint.bolt_diameter) * u64::from(thickness) * steel.min(strengths.bolt_bearing)
+            / 5
     };
     let plate = bearing(joint.plate_thickness, strengths.plate_bearing);
     let column = bearing(joint.column_flange, strengths.column_bearing);
@@ -40,7 +47,9 @@ fn flange_weld_passes(joint: &Joint, strengths: &Strengths, forces: &[u64; ROWS]
     }
     let flange = strengths.beam * u64::from(joint.beam_flange) * u64::from(joint.beam_width) / 100;
     // forces past the last row are 0
-    let top_rows: u64 = forces[..if joint.is_extended() { 3 } else { 2 }].iter().sum();
+    let top_rows: u64 = forces[..if joint.is_extended() { 3 } else { 2 }]
+        .iter()
+        .sum();
     weld(joint.flange_weld, joint.beam_width, strengths.weld) >= flange.min(top_rows)
 }
 

@@ -27,13 +27,18 @@ pub fn work(joint: &Joint) -> Result<Outcome, WorkRefusal> {
         return Err(WorkRefusal::TooThick);
     }
     let (check, governing_force) = governing(joint, &strengths);
-    let cap = u64::try_from(governing_force as i64 - i64::from(joint.axial)).map_err(|_| WorkRefusal::Compression)?;
+    let cap = u64::try_from(governing_force as i64 - i64::from(joint.axial))
+        .map_err(|_| WorkRefusal::Compression)?;
 
     let mut limits = group_limits(joint, &strengths, &distances);
     // the cap is one more limit on all rows together
     limits[rows - 1] = limits[rows - 1].min(cap);
     let forces = share(rows, &limits);
-    let moment = forces.iter().zip(&joint.levers).map(|(force, &lever)| force * u64::from(lever)).sum();
+    let moment = forces
+        .iter()
+        .zip(&joint.levers)
+        .map(|(force, &lever)| force * u64::from(lever))
+        .sum();
     Ok(Outcome {
         forces,
         sum: forces.iter().sum(),
@@ -51,5 +56,6 @@ fn rows_in_place(joint: &Joint) -> bool {
     let (above, below) = joint.levers[..joint.row_count()].split_at(extension);
     let flange_top = 2 * joint.beam_depth - joint.beam_flange;
     let flange_foot = 2 * joint.beam_depth - 3 * joint.beam_flange;
-    above.iter().all(|&lever| 2 * lever > flange_top) && below.iter().all(|&lever| 2 * lever < flange_foot)
+    above.iter().all(|&lever| 2 * lever > flange_top)
+        && below.iter().all(|&lever| 2 * lever < flange_foot)
 }

@@ -76,7 +76,14 @@ fn cell(line: &str) -> Cell<'_> {
         *field = number.parse::<i64>().unwrap() as u32;
     }
     let joint = Joint::from_fields(&fields);
-    Cell { id, line, quantity, printed: newtons(printed), tolerance: newtons(tolerance), joint }
+    Cell {
+        id,
+        line,
+        quantity,
+        printed: newtons(printed),
+        tolerance: newtons(tolerance),
+        joint,
+    }
 }
 
 /// The quantity of a worked joint, in newtons.
@@ -88,8 +95,14 @@ fn computed(cell: &Cell, outcome: &Outcome) -> u64 {
     if quantity == "least force of rows 4 to 6" {
         return *outcome.forces[3..6].iter().min().unwrap();
     }
-    assert!(quantity.starts_with("governing compression, cap plus N"), "{quantity}");
-    if let Some(letter) = cell.quantity.strip_prefix("governing compression, cap plus N (kN) by ") {
+    assert!(
+        quantity.starts_with("governing compression, cap plus N"),
+        "{quantity}"
+    );
+    if let Some(letter) = cell
+        .quantity
+        .strip_prefix("governing compression, cap plus N (kN) by ")
+    {
         assert_eq!(outcome.check.letter(), letter.as_bytes()[0], "{}", cell.id);
     }
     (outcome.cap as i64 + i64::from(cell.joint.axial)) as u64
@@ -104,7 +117,10 @@ fn printed_figures_within_their_tolerance() {
         let outcome = work(&cell.joint).unwrap();
         let force = computed(cell, &outcome);
         if force.abs_diff(cell.printed) > cell.tolerance {
-            println!("{} line {}: {} printed {}, computed {force}", cell.id, cell.line, cell.quantity, cell.printed);
+            println!(
+                "{} line {}: {} printed {}, computed {force}",
+                cell.id, cell.line, cell.quantity, cell.printed
+            );
             found.push((cell.id, cell.quantity, force));
         }
     }

@@ -1,13 +1,13 @@
 //! Every refusal, at both ends of its condition.
 
 use reference::{
-    allocate, read, rest, sheet, work, write, AllocateRefusal, Joint, ReadRefusal, WorkRefusal, WriteRefusal,
-    LONGEST_FILE,
+    allocate, read, rest, sheet, work, write, AllocateRefusal, Joint, ReadRefusal, WorkRefusal,
+    WriteRefusal, LONGEST_FILE,
 };
 
 const JOINT_I: [u32; 30] = [
-    1, 0, 88, 20, 275, 275, 275, 5283, 2087, 132, 96, 127, 4765, 3071, 1657, 118, 67, 2000, 200, 900, 0, 600, 80, 60,
-    2000, 1, 0, 57000, 50000, 2400,
+    1, 0, 88, 20, 275, 275, 275, 5283, 2087, 132, 96, 127, 4765, 3071, 1657, 118, 67, 2000, 200,
+    900, 0, 600, 80, 60, 2000, 1, 0, 57000, 50000, 2400,
 ];
 
 fn fields() -> [u32; 37] {
@@ -21,7 +21,13 @@ fn joint() -> Joint {
 }
 
 fn extended_joint() -> Joint {
-    Joint { rows: 2, extended: 1, edge: 500, levers: [3500, 2400, 0, 0, 0, 0, 0, 0], ..joint() }
+    Joint {
+        rows: 2,
+        extended: 1,
+        edge: 500,
+        levers: [3500, 2400, 0, 0, 0, 0, 0, 0],
+        ..joint()
+    }
 }
 
 fn with_field(number: usize, value: u32) -> Joint {
@@ -55,7 +61,12 @@ fn read_1_the_bytes_end() {
 
 #[test]
 fn read_2_the_form() {
-    for bytes in [&[0x88, 0x00][..], &[0x80; 5], &[0x80, 0x80, 0x80, 0x80, 0x00], &[0xff, 0xff, 0xff, 0xff, 0x10]] {
+    for bytes in [
+        &[0x88, 0x00][..],
+        &[0x80; 5],
+        &[0x80, 0x80, 0x80, 0x80, 0x00],
+        &[0xff, 0xff, 0xff, 0xff, 0x10],
+    ] {
         assert_eq!(read(bytes), Err(ReadRefusal::NumberForm));
     }
     let file = file_of(&joint());
@@ -65,7 +76,12 @@ fn read_2_the_form() {
 
 #[test]
 fn read_3_the_row_count() {
-    for bytes in [&[0][..], &[9], &[0xac, 0x02], &[0xff, 0xff, 0xff, 0xff, 0x0f]] {
+    for bytes in [
+        &[0][..],
+        &[9],
+        &[0xac, 0x02],
+        &[0xff, 0xff, 0xff, 0xff, 0x0f],
+    ] {
         assert_eq!(read(bytes), Err(ReadRefusal::RowCount));
     }
 }
@@ -87,8 +103,14 @@ fn write_refuses_in_order_and_leaves_the_buffer() {
         assert_eq!(buffer, vec![7; length]);
         refusal
     };
-    assert_eq!(refused(Joint { rows: 0, ..joint() }, 200), WriteRefusal::RowCount);
-    assert_eq!(refused(Joint { rows: 9, ..joint() }, 0), WriteRefusal::RowCount);
+    assert_eq!(
+        refused(Joint { rows: 0, ..joint() }, 200),
+        WriteRefusal::RowCount
+    );
+    assert_eq!(
+        refused(Joint { rows: 9, ..joint() }, 0),
+        WriteRefusal::RowCount
+    );
     assert_eq!(refused(with_field(37, 1), 0), WriteRefusal::SpareLever);
     let length = file_of(&joint()).len();
     assert_eq!(refused(joint(), length - 1), WriteRefusal::ShortBuffer);
@@ -103,8 +125,14 @@ fn allocate_refuses_in_order() {
     assert_eq!(allocate(0, &[]), Err(AllocateRefusal::RowCount));
     assert_eq!(allocate(9, &[0; 45]), Err(AllocateRefusal::RowCount));
     assert_eq!(allocate(2, &[u64::MAX, 0]), Err(AllocateRefusal::FewLimits));
-    assert_eq!(allocate(2, &[0, 0, 4_000_000_001]), Err(AllocateRefusal::LimitTooGreat));
-    assert_eq!(allocate(1, &[4_000_000_000, u64::MAX]), Ok([4_000_000_000, 0, 0, 0, 0, 0, 0, 0]));
+    assert_eq!(
+        allocate(2, &[0, 0, 4_000_000_001]),
+        Err(AllocateRefusal::LimitTooGreat)
+    );
+    assert_eq!(
+        allocate(1, &[4_000_000_000, u64::MAX]),
+        Ok([4_000_000_000, 0, 0, 0, 0, 0, 0, 0])
+    );
 }
 
 /// Each field at both ends of its range, and one past each.
@@ -136,24 +164,48 @@ fn work_10_each_field() {
     for (number, low, high) in ends {
         assert_eq!(field_of(&with_field(number, low)), 0, "field {number}");
         assert_eq!(field_of(&with_field(number, high)), 0, "field {number}");
-        assert_eq!(field_of(&with_field(number, low.wrapping_sub(1))), number as u32);
+        assert_eq!(
+            field_of(&with_field(number, low.wrapping_sub(1))),
+            number as u32
+        );
         assert_eq!(field_of(&with_field(number, high + 1)), number as u32);
     }
-    for (number, value) in [(1, 0), (1, 9), (2, 2), (3, 47), (4, 22), (5, 0), (6, 276), (7, 354)] {
+    for (number, value) in [
+        (1, 0),
+        (1, 9),
+        (2, 2),
+        (3, 47),
+        (4, 22),
+        (5, 0),
+        (6, 276),
+        (7, 354),
+    ] {
         assert_eq!(field_of(&with_field(number, value)), number as u32);
     }
     for number in [28, 29] {
         assert_eq!(field_of(&with_field(number, 10_000_000)), 0);
         assert_eq!(field_of(&with_field(number, 10_000_001)), number as u32);
     }
-    for (axial, field) in [(10_000_000, 0), (10_000_001, 27), (-10_000_000, 0), (-10_000_001, 27), (i32::MIN, 27)] {
+    for (axial, field) in [
+        (10_000_000, 0),
+        (10_000_001, 27),
+        (-10_000_000, 0),
+        (-10_000_001, 27),
+        (i32::MIN, 27),
+    ] {
         assert_eq!(field_of(&Joint { axial, ..joint() }), field);
     }
     for number in 31..=37 {
         assert_eq!(field_of(&with_field(number, 1)), number as u32);
     }
     for (edge, field) in [(149, 21), (150, 0), (2000, 0), (2001, 21), (0, 21)] {
-        assert_eq!(field_of(&Joint { edge, ..extended_joint() }), field);
+        assert_eq!(
+            field_of(&Joint {
+                edge,
+                ..extended_joint()
+            }),
+            field
+        );
     }
     assert_eq!(work(&with_field(3, 47)).unwrap_err().number(), 10);
 }
@@ -161,17 +213,35 @@ fn work_10_each_field() {
 #[test]
 fn work_11_lever_order() {
     let levers = |second| [2400, second, 0, 0, 0, 0, 0, 0];
-    assert!(work(&Joint { rows: 2, levers: levers(2399), ..joint() }).is_ok());
-    assert_eq!(work(&Joint { rows: 2, levers: levers(2400), ..joint() }), Err(WorkRefusal::LeverOrder));
+    assert!(work(&Joint {
+        rows: 2,
+        levers: levers(2399),
+        ..joint()
+    })
+    .is_ok());
+    assert_eq!(
+        work(&Joint {
+            rows: 2,
+            levers: levers(2400),
+            ..joint()
+        }),
+        Err(WorkRefusal::LeverOrder)
+    );
 }
 
 #[test]
 fn work_12_row_place() {
     // 2Db − 3Tb = 5788, 2Db − Tb = 6024
-    let flush = |lever| Joint { levers: [lever, 0, 0, 0, 0, 0, 0, 0], ..joint() };
+    let flush = |lever| Joint {
+        levers: [lever, 0, 0, 0, 0, 0, 0, 0],
+        ..joint()
+    };
     assert!(work(&flush(2893)).is_ok());
     assert_eq!(work(&flush(2894)), Err(WorkRefusal::RowPlace));
-    let extended = |first, second| Joint { levers: [first, second, 0, 0, 0, 0, 0, 0], ..extended_joint() };
+    let extended = |first, second| Joint {
+        levers: [first, second, 0, 0, 0, 0, 0, 0],
+        ..extended_joint()
+    };
     assert!(work(&extended(3500, 2893)).is_ok());
     assert_eq!(work(&extended(3012, 2400)), Err(WorkRefusal::RowPlace));
     assert_eq!(work(&extended(3013, 2400)), Err(WorkRefusal::TooTight));
@@ -181,24 +251,64 @@ fn work_12_row_place() {
 #[test]
 fn work_13_too_tight() {
     // column m = 5(900 − tc) − 8×127, plate m = 5(900 − tb) − 480, e = 5(B − 900), mx = 10h − 30760
-    let joint = Joint { axial: -10_000_000, ..joint() };
+    let joint = Joint {
+        axial: -10_000_000,
+        ..joint()
+    };
     let tight = |joint: Joint| work(&joint) == Err(WorkRefusal::TooTight);
-    assert!(!tight(Joint { gauge: 399, plate_width: 2000, ..joint.clone() }));
-    assert!(tight(Joint { gauge: 398, plate_width: 2000, ..joint.clone() }));
-    assert!(!tight(Joint { gauge: 596, beam_web: 400, column_root: 0, ..joint.clone() }));
-    assert!(tight(Joint { gauge: 595, beam_web: 400, column_root: 0, ..joint.clone() }));
-    assert!(!tight(Joint { column_width: 1100, ..joint.clone() }));
-    assert!(tight(Joint { column_width: 1099, ..joint.clone() }));
-    assert!(!tight(Joint { plate_width: 1100, ..joint.clone() }));
-    assert!(tight(Joint { plate_width: 1099, ..joint }));
-    let extended = |first| Joint { levers: [first, 2400, 0, 0, 0, 0, 0, 0], ..extended_joint() };
+    assert!(!tight(Joint {
+        gauge: 400,
+        plate_width: 2000,
+        ..joint.clone()
+    }));
+    assert!(tight(Joint {
+        gauge: 399,
+        plate_width: 2000,
+        ..joint.clone()
+    }));
+    assert!(!tight(Joint {
+        gauge: 596,
+        beam_web: 400,
+        column_root: 0,
+        ..joint.clone()
+    }));
+    assert!(tight(Joint {
+        gauge: 595,
+        beam_web: 400,
+        column_root: 0,
+        ..joint.clone()
+    }));
+    assert!(!tight(Joint {
+        column_width: 1100,
+        ..joint.clone()
+    }));
+    assert!(tight(Joint {
+        column_width: 1099,
+        ..joint.clone()
+    }));
+    assert!(!tight(Joint {
+        plate_width: 1100,
+        ..joint.clone()
+    }));
+    assert!(tight(Joint {
+        plate_width: 1099,
+        ..joint
+    }));
+    let extended = |first| Joint {
+        levers: [first, 2400, 0, 0, 0, 0, 0, 0],
+        ..extended_joint()
+    };
     assert!(tight(extended(3125)));
     assert!(!tight(extended(3126)));
 }
 
 #[test]
 fn work_14_too_thick() {
-    let thick = |column_flange, plate_thickness| Joint { column_flange, plate_thickness, ..joint() };
+    let thick = |column_flange, plate_thickness| Joint {
+        column_flange,
+        plate_thickness,
+        ..joint()
+    };
     assert!(work(&thick(132, 500)).is_ok());
     assert!(work(&thick(500, 60)).is_ok());
     assert_eq!(work(&thick(500, 500)), Err(WorkRefusal::TooThick));
@@ -206,15 +316,47 @@ fn work_14_too_thick() {
 
 #[test]
 fn work_refuses_in_order() {
-    let wrong = Joint { rows: 2, levers: [2400, 2400, 0, 0, 0, 0, 0, 0], gauge: 300, ..joint() };
+    let wrong = Joint {
+        rows: 2,
+        levers: [2400, 2400, 0, 0, 0, 0, 0, 0],
+        gauge: 300,
+        ..joint()
+    };
     assert_eq!(work(&wrong), Err(WorkRefusal::LeverOrder));
-    assert_eq!(work(&Joint { alpha: 0, ..wrong.clone() }), Err(WorkRefusal::Field(22)));
-    let wrong = Joint { levers: [9000, 0, 0, 0, 0, 0, 0, 0], gauge: 300, ..joint() };
+    assert_eq!(
+        work(&Joint {
+            alpha: 0,
+            ..wrong.clone()
+        }),
+        Err(WorkRefusal::Field(22))
+    );
+    let wrong = Joint {
+        levers: [9000, 0, 0, 0, 0, 0, 0, 0],
+        gauge: 300,
+        ..joint()
+    };
     assert_eq!(work(&wrong), Err(WorkRefusal::RowPlace));
-    let wrong = Joint { gauge: 300, column_flange: 500, plate_thickness: 500, axial: 10_000_000, ..joint() };
+    let wrong = Joint {
+        gauge: 300,
+        column_flange: 500,
+        plate_thickness: 500,
+        axial: 10_000_000,
+        ..joint()
+    };
     assert_eq!(work(&wrong), Err(WorkRefusal::TooTight));
-    assert_eq!(work(&Joint { gauge: 900, ..wrong.clone() }), Err(WorkRefusal::TooThick));
-    let wrong = Joint { gauge: 900, plate_thickness: 200, column_flange: 132, ..wrong };
+    assert_eq!(
+        work(&Joint {
+            gauge: 900,
+            ..wrong.clone()
+        }),
+        Err(WorkRefusal::TooThick)
+    );
+    let wrong = Joint {
+        gauge: 900,
+        plate_thickness: 200,
+        column_flange: 132,
+        ..wrong
+    };
     assert_eq!(work(&wrong), Err(WorkRefusal::Compression));
 }
 
@@ -222,13 +364,19 @@ fn work_refuses_in_order() {
 fn sheet_goes_on_and_ends() {
     let good = file_of(&joint());
     let out_of_range = file_of(&with_field(22, 0));
-    let compressed = file_of(&Joint { axial: 407_707, ..joint() });
+    let compressed = file_of(&Joint {
+        axial: 407_707,
+        ..joint()
+    });
     let worked = "1 219345 219345 52642 407706 K P P P P";
     assert_eq!(
         lines(&[&good[..], &out_of_range, &compressed, &good, &[9], &good].concat()),
         format!("1 {worked}\n2 R 10 22\n3 R 15\n4 {worked}\n5 R 3\n")
     );
-    assert_eq!(lines(&[&good[..], &good[..5]].concat()), format!("1 {worked}\n2 R 1\n"));
+    assert_eq!(
+        lines(&[&good[..], &good[..5]].concat()),
+        format!("1 {worked}\n2 R 1\n")
+    );
 }
 
 #[test]
