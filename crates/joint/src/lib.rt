@@ -285,6 +285,7 @@ fn check_levers(found: FieldCheck, rows: u32, levers: [u32; 8]) -> FieldCheck
     kept
 }
 
+// One of two ends of a range.
 fn chosen(test: bool, yes: u32, other: u32) -> u32
     ensures { λ r. ⌜ r ≡ cond test yes other ⌝ }
 {

@@ -31,7 +31,7 @@ read-storedAll [] small left = refl
 read-storedAll (x ∷ xs) small left =
     rw (append-assoc, read-stored x (small 0), read-storedAll xs (λ k. small (suc k)) left)
 
--- a joint step that gave something: what it was made of
+-- one thing read after another: what the first gave, and what the second gave of it
 after-got : {A B : Type 0} (outcome : Outcome A) (next : A → List ℕ → Outcome B) (b : B) (left : List ℕ) → after outcome next ≡ got b left
     → (a : A) × (rest : List ℕ) × (outcome ≡ got a rest) × (next a rest ≡ got b left)
 after-got (got a rest) next b left e = (a, rest, refl, e)

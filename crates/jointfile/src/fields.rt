@@ -1,4 +1,4 @@
-// A joint's fields in file order: field k of document 01 stands at place k - 1.
+// A joint's fields in file order: field k of document 01 stands at place k - 1. Private as `number` is.
 use joint::Beam;
 use joint::Bolts;
 use joint::Column;

@@ -1,4 +1,5 @@
-// Numbers of a joint file: groups of seven bits, the lowest first, the top bit set when more follow.
+// Numbers of a joint file: groups of seven bits, the lowest first, the top bit set when more follow. The module is private: what is
+// `pub` here is so for this crate alone, and its callers show what it requires.
 ghost use mathlib.Core.Path.{_≡_};
 ghost use Prim.Native.Nat.{_+_, _≤_};
 ghost use lib.ListN.{length};

@@ -1,4 +1,4 @@
-// Runs of numbers: read into a list, measured, and written.
+// Runs of numbers: read into a list, measured, and written. Private as `number` is.
 use crate::number::Number;
 use crate::number::number_at;
 use crate::number::put_number;
