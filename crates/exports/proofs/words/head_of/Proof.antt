@@ -1,0 +1,22 @@
+-- `words::head_of` meets its contract: the list is that of the definition, once the axial force, which comes back from its 32 bits
+-- as it was, is put as a word. Assumes nothing.
+use mathlib.Core.Path.{_≡_}
+use mir.Syntax.{w32}
+use mir.Val.{toZ, ofZ}
+use Rattle.exports.specs.Words.{headOf}
+use borrow.Author.Needs.{needs}
+use Rattle.exports.proofs.words.head_of.Statement.{statement}
+use Rattle.exports.proofs.words.head_of.Tie as tie
+
+word-of-requires : tie.Need-word-of-requires
+word-of-requires c κs = search needs
+
+returns : tie.Need-returns
+unfolding headOf
+returns c =
+    let axial = c .before .before .before .args .joint .face .loads .axial in
+    let back : toZ w32 (ofZ w32 axial) ≡ axial = search needs in
+    rw (c .word-of .ensures, back)
+
+pub head-of-spec : {M : Type 1} → statement M
+head-of-spec = tie.close (tie.spec word-of-requires returns)

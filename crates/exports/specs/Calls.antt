@@ -1,0 +1,59 @@
+-- What each exported call answers and leaves in the slices that it is lent. 100: a lent slice is too short, and all is as it was.
+-- Assumes nothing.
+use Prim.Native.Nat.{ℕ}
+use mathlib.Core.List.{List}
+use mathlib.Core.Bool.{cond}
+use lib.Dec.{leb}
+use lib.ListN.{length}
+use Rattle.allocation.specs.Allocation.{allocated}
+use Rattle.allocation.specs.declared.Allocation.{Allocation}
+use Rattle.jointfile.specs.File.{reading}
+use Rattle.jointfile.specs.Write.{Writing, writing}
+use Rattle.jointfile.specs.declared.Reading.{Reading}
+use Rattle.exports.specs.Words.{jointOfWords, wordsOf, front}
+
+-- ---- Allocate
+
+pub record AllocateTold : Type 0 where
+  pub number : ℕ
+  pub forces : List ℕ
+
+abbrev pub allocateTold : ℕ → List ℕ → AllocateTold
+allocateTold number forces = record { number = number; forces = forces }
+
+abbrev pub allocateAnswer : Allocation → List ℕ → AllocateTold
+allocateAnswer allocation forces = allocateTold (allocation .refusal) (front (allocation .forces) forces)
+
+unfoldable pub allocating : ℕ → List ℕ → List ℕ → AllocateTold
+allocating count limits forces =
+    cond (leb 8 (length forces)) (allocateAnswer (allocated count limits) forces) (allocateTold 100 forces)
+
+-- ---- Read
+
+pub record ReadTold : Type 0 where
+  pub number : ℕ
+  pub fields : List ℕ
+  pub next : ℕ
+
+abbrev pub readAnswer : Reading → List ℕ → ReadTold
+readAnswer reading fields =
+    record { number = reading .refusal; fields = front (wordsOf (reading .joint)) fields; next = reading .next }
+
+unfoldable pub readingInto : List ℕ → List ℕ → ℕ → ReadTold
+readingInto bytes fields next =
+    cond (leb 37 (length fields)) (readAnswer (reading bytes) fields) (record { number = 100; fields = fields; next = next })
+
+-- ---- Write
+
+pub record WriteTold : Type 0 where
+  pub number : ℕ
+  pub buffer : List ℕ
+  pub length : ℕ
+
+abbrev pub writeAnswer : Writing → WriteTold
+writeAnswer writing = record { number = writing .refusal; buffer = writing .buffer; length = writing .size }
+
+unfoldable pub writingInto : List ℕ → List ℕ → ℕ → WriteTold
+writingInto fields buffer size =
+    cond (leb 37 (length fields)) (writeAnswer (writing (jointOfWords fields) buffer))
+    (record { number = 100; buffer = buffer; length = size })
