@@ -1,6 +1,7 @@
 // The calls as C and Rust see them: over numbers and lent slices. A joint is 37 words of 32 bits, document 01's fields in file order
 // with spare levers; N is its two's complement. Answers are document 01's refusal numbers, 0 for none; and 100, with nothing
 // written, where a lent slice is too short to hold a joint or an answer.
+mod outcomes;
 mod put;
 mod words;
 

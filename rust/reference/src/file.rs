@@ -73,21 +73,23 @@ pub fn write(joint: &Joint, buffer: &mut [u8]) -> Result<usize, WriteRefusal> {
 /// A number is judged at its last byte, but a fifth byte above 15 there and then.
 #[inline]
 fn read_number(bytes: &[u8]) -> Result<(u32, &[u8]), ReadRefusal> {
-    let mut value = 0;
-    for place in 0..5 {
-        let &byte = bytes.get(place).ok_or(ReadRefusal::BytesEnd)?;
-        if place == 4 && byte > 15 {
+    let (&first, mut rest) = bytes.split_first().ok_or(ReadRefusal::BytesEnd)?;
+    let mut value = u32::from(first & 0x7f);
+    let mut last = first;
+    let mut shift = 7;
+    while last & 0x80 != 0 {
+        (last, rest) = rest
+            .split_first()
+            .map(|(&byte, after)| (byte, after))
+            .ok_or(ReadRefusal::BytesEnd)?;
+        let past_32_bits = shift == 28 && last > 15;
+        if last == 0 || past_32_bits {
             return Err(ReadRefusal::NumberForm);
         }
-        value |= u32::from(byte & 0x7f) << (7 * place);
-        if byte & 0x80 == 0 {
-            if byte == 0 && place > 0 {
-                return Err(ReadRefusal::NumberForm);
-            }
-            return Ok((value, &bytes[place + 1..]));
-        }
+        value |= u32::from(last & 0x7f) << shift;
+        shift += 7;
     }
-    Err(ReadRefusal::NumberForm)
+    Ok((value, rest))
 }
 
 #[inline]

@@ -29,34 +29,70 @@ pub fn allocate(count: usize, limits: &[u64]) -> Result<[u64; ROWS], AllocateRef
     Ok(share(count, limits))
 }
 
-/// As `allocate`, for limits that are known to be enough and small enough.
+/// As `allocate`, for limits that are known to be enough and small enough. A row's force is the least sum down to it, over groups
+/// that end at it, less the sum above it: each limit is lowered once, and counted once into the sums of the rows it reaches.
 pub fn share(count: usize, limits: &[u64]) -> [u64; ROWS] {
-    let lowered = lower(count, limits);
     let mut forces = [0; ROWS];
-    // sum of the forces above each row
-    let mut above = [0; ROWS + 1];
-    for row in 0..count {
-        let down_to_row = (0..=row)
-            .map(|first| above[first] + lowered[first][row])
-            .min();
-        above[row + 1] = down_to_row.unwrap_or(0);
-        forces[row] = above[row + 1] - above[row];
+    let mut sums = [u64::MAX; ROWS];
+    let mut above = 0;
+    let mut rest = limits;
+    for first in 0..count {
+        let (begin_here, others) = rest.split_at(count - first);
+        let mut lowered = u64::MAX;
+        for (sum, &limit) in sums[first..count].iter_mut().zip(begin_here).rev() {
+            lowered = lowered.min(limit);
+            *sum = (*sum).min(above + lowered);
+        }
+        forces[first] = sums[first] - above;
+        above = sums[first];
+        rest = others;
     }
     forces
 }
 
-/// Each limit lowered to the least of any group that begins at the same row and reaches at least as far.
-fn lower(count: usize, limits: &[u64]) -> [[u64; ROWS]; ROWS] {
-    let mut lowered = [[0; ROWS]; ROWS];
-    let mut from = 0;
-    for first in 0..count {
-        let reach = count - first;
-        let mut least = u64::MAX;
-        for (last, &limit) in (first..count).zip(&limits[from..from + reach]).rev() {
-            least = least.min(limit);
-            lowered[first][last] = least;
+#[cfg(test)]
+mod tests {
+    use super::*;
+
+    /// Document 01's words, one by one.
+    fn as_written(count: usize, limits: &[u64]) -> [u64; ROWS] {
+        let place = |first: usize, last: usize| {
+            (0..first).map(|row| count - row).sum::<usize>() + last - first
+        };
+        let lowered = |first: usize, last: usize| {
+            (last..count)
+                .map(|end| limits[place(first, end)])
+                .min()
+                .unwrap()
+        };
+        let mut forces = [0; ROWS];
+        for row in 0..count {
+            let left = |first: usize| lowered(first, row) - forces[first..row].iter().sum::<u64>();
+            forces[row] = (0..=row).map(left).min().unwrap();
         }
-        from += reach;
+        forces
     }
-    lowered
+
+    #[test]
+    fn shared_as_document_01_says() {
+        let mut state = 1_u64;
+        let mut next = || {
+            state = state
+                .wrapping_mul(6_364_136_223_846_793_005)
+                .wrapping_add(1);
+            state >> 33
+        };
+        for turn in 0..20_000 {
+            let count = next() as usize % 8 + 1;
+            let most = [3, 100, 10_000, 4_000_000_000][turn % 4];
+            let limits: Vec<u64> = (0..count * (count + 1) / 2)
+                .map(|_| next() % (most + 1))
+                .collect();
+            assert_eq!(
+                share(count, &limits),
+                as_written(count, &limits),
+                "{limits:?}"
+            );
+        }
+    }
 }
