@@ -10,7 +10,8 @@ use native.Mathlib.Numerals.{add-one}
 use mathlib.Core.List.{List, [], _∷_, _++_}
 use lib.ListN.{length, getD, set, replicate, getD-replicate}
 use lib.Seq.{set-at, append-snoc}
-use Rattle.sharing.specs.Groups.{Table, groupsAbove, listed}
+use Rattle.sharing.specs.Groups.{Table, total, groupsAbove, listed}
+use Rattle.sharing.proofs.Totals.{total-append}
 use Rattle.sharing.specs.Sharing.{lowered, nextForce, forcesDownTo, shared}
 use Rattle.sharing.proofs.Lowering.{lowered-le}
 use Rattle.sharing.proofs.Sums.{sumDownTo, length-forces, sum-step, sum-le, le-sum}
@@ -31,6 +32,16 @@ pub record SharedDownTo (n : ℕ) (limits : List ℕ) (forces sums : List ℕ) (
   pub got : forces ≡ forcesDownTo (listed n limits) n row ++ replicate (8 - row) 0
   pub size : length sums ≡ 8
   pub left : (k : ℕ) → row ≤ k → k < n → getD sums k 0 ≡ allowed (listed n limits) n row k
+
+-- no number of a list is above their sum, and places that are 0 add nothing
+at-most-total : (xs : List ℕ) (k : ℕ) → getD xs k 0 ≤ total xs
+at-most-total [] k = omega arith
+at-most-total (x ∷ xs) zero = omega arith
+at-most-total (x ∷ xs) (suc k) = omega (arith, at-most-total xs k)
+
+total-zeros : (m : ℕ) → total (replicate m 0) ≡ 0
+total-zeros zero = refl
+total-zeros (suc m) = omega (arith, total-zeros m)
 
 -- the first of the empty places is filled
 fill : (got : List ℕ) (row empty value : ℕ) → length got ≡ row
@@ -125,3 +136,11 @@ module _ (n : ℕ) (limits : List ℕ) (s : Shareable n limits) where
       d .got
       ∙ ap (λ k. forcesDownTo (listed n limits) n k ++ replicate (8 - k) 0) all
       ∙ ap (λ k. forcesDownTo (listed n limits) n n ++ replicate (8 - k) 0) (sym (length-forces (listed n limits) n n))
+
+  -- no place has more than Allocate takes
+  pub force-le-most : (k : ℕ) → getD (eightPlaces (shared (listed n limits) n)) k 0 ≤ 4000000000
+  unfolding eightPlaces shared sumDownTo
+  force-le-most k =
+      let forces = forcesDownTo (listed n limits) n n in
+      let empty : List ℕ = replicate (8 - length forces) 0 in
+      omega (arith, at-most-total (forces ++ empty) k, total-append forces empty, total-zeros (8 - length forces), sum-le-most n (le-refl n))

@@ -5,11 +5,12 @@ use mathlib.Core.Bool.{Bool, true, false, cond}
 use mathlib.Core.List.{List, [], _∷_}
 use Prim.Native.Nat.{ℕ, zero, suc, _+_, _-_, _≤_, _<_, zero-le}
 use native.Mathlib.Nat.{add-zero, add-suc, suc-add, zero-add, le-of-suc-le-suc, not-suc-le-zero}
+use native.Mathlib.Decide.{decLt}
 use native.Mathlib.Omega.{arith}
 use borrow.Author.Tests.{lt-ltb, le-ltb, eq-eqb, ne-eqb}
-use lib.Dec.{T, leb, leb→le}
+use lib.Dec.{T, leb, ltb, leb→le}
 use lib.IntN.{ℤ, pos, negsuc, natAbs}
-use lib.ListN.{length, getD}
+use lib.ListN.{length, getD, List·getD-eq-default}
 use lib.Seq.{getD-append-add}
 use mir.Facts.{and-yes}
 use Rattle.arithmetic.specs.Range.{Within, within, _to_}
@@ -121,6 +122,18 @@ module _ (joint : Joint) (found : fieldCheck joint ≡ AllInRange) where
 
 -- what a range that hangs on another field says where that field is known
 module _ (face : Face) (r : FaceInRange face) where
+  -- no lever is above 20000, and places past the last lever are 0
+  pub lever-most : (row : ℕ) → getD (face .levers) row 0 ≤ 20000
+  lever-most row =
+      elim (decLt row (length (face .levers))) [
+        | yes h ↦ high (ltb row (face .rows)) (r .lever row h)
+        | no h ↦ rw (List·getD-eq-default (face .levers) 0 {n = row} (omega arith)) zero-le
+      ]
+    where
+      high : (used : Bool) {x : ℕ} → Within (cond used (1 to 20000) (0 to 0)) x → x ≤ 20000
+      high true w = w .high
+      high false w = omega (arith, w .high)
+
   pub row-lever : (row : ℕ) → row < face .rows → row < length (face .levers) → Within (1 to 20000) (getD (face .levers) row 0)
   row-lever row used h = rw (lt-ltb row (face .rows) used) at (r .lever row h)
 

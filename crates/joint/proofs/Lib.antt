@@ -1,3 +1,4 @@
 pub mod Fields
 pub mod InRange
 pub mod Signs
+pub mod Axial

@@ -36,7 +36,7 @@ negative (negsuc n) small e =
       small = small .sfits;
       is = refl;
       less = less;
-      bits = rw less (toZ-ofZ w32 (pos n) (record { sfits = small .sfits }))
+      bits = rw less (toZ-ofZ w32 (pos n) (record { sfits = small .sfits }));
     }
 
 -- and not

@@ -9,20 +9,22 @@ use native.Mathlib.Nat.{sub-zero, zero-sub}
 use borrow.Author.Tests.{leb-true}
 use lib.Dec.{leb}
 use lib.ListN.{length, take, drop, replicate, length-drop}
+use Rattle.arithmetic.specs.Range.{within}
+use Rattle.joint.specs.Ranges.{rowCounts}
 use Rattle.joint.specs.declared.Joint.{Joint}
-use Rattle.jointfile.specs.Outcome.{got, refused}
-use Rattle.jointfile.specs.Number.{NumberRead}
-use Rattle.jointfile.specs.Fields.{jointOf, fieldsOf}
-use Rattle.jointfile.specs.File.{rowCount, eight, readOthers, readJoint, RunRead, answer}
-use Rattle.jointfile.specs.Write.{storedAll, fileOf, allZero, turnedDown, placed, writingRows, writing}
-use Rattle.jointfile.proofs.Sizes.{storedAll-append}
-use Rattle.jointfile.specs.declared.number.Number.the-variants.{Value, Refused as NumberRefused}
-use Rattle.jointfile.specs.declared.run.Run.the-variants.{Next, Refused}
+use Rattle.numbers.specs.Run.{RunRead, storedAll, allZero}
+use Rattle.numbers.specs.Outcome.{got, refused}
+use Rattle.numbers.specs.Number.{NumberRead}
+use Rattle.numbers.specs.declared.number.Number.the-variants.{Value, Refused as NumberRefused}
+use Rattle.numbers.specs.declared.run.Run.the-variants.{Next, Refused}
+use Rattle.numbers.proofs.Sizes.{storedAll-append}
+use Rattle.fields.specs.Fields.{jointOf, fieldsOf}
+use Rattle.jointfile.specs.File.{eight, readOthers, readJoint, answer}
+use Rattle.jointfile.specs.Write.{fileOf, turnedDown, placed, writingRows, writing}
 
 -- ---- the number of rows
 
-pub row-count-most : (rows : ℕ) → rowCount rows ≡ true → rows ≤ 8
-unfolding rowCount
+pub row-count-most : (rows : ℕ) → within rowCounts rows ≡ true → rows ≤ 8
 row-count-most rows e = leb-true rows 8 (and-eq-true-iff (leb 1 rows) (leb rows 8) .0 e .1)
 
 -- ---- the levers in an array of eight
@@ -69,11 +71,11 @@ module _ {bytes : List ℕ} where
   first-refused read = rw (sym (read .told))
 
   module _ {rows next : ℕ} (read : NumberRead bytes 0 (Value rows next)) where
-    pub rows-refused : rowCount rows ≡ false → readJoint bytes ≡ refused 3
+    pub rows-refused : within rowCounts rows ≡ false → readJoint bytes ≡ refused 3
     unfolding readJoint
     rows-refused e = rw (sym (read .told), e)
 
-    pub rows-taken : rowCount rows ≡ true → readJoint bytes ≡ readOthers rows (drop next bytes)
+    pub rows-taken : within rowCounts rows ≡ true → readJoint bytes ≡ readOthers rows (drop next bytes)
     unfolding readJoint
     rows-taken e = rw (sym (read .told), e)
 
@@ -90,11 +92,11 @@ module _ (fields : List ℕ) (rows : ℕ) (levers buffer : List ℕ) where
   writing-file e = rw (e, storedAll-append)
 
 module _ (joint : Joint) (buffer : List ℕ) where
-  pub writing-refused : rowCount (joint .face .rows) ≡ false → turnedDown buffer 3 ≡ writing joint buffer
+  pub writing-refused : within rowCounts (joint .face .rows) ≡ false → turnedDown buffer 3 ≡ writing joint buffer
   unfolding writing
   writing-refused e = rw e
 
-  pub writing-rows : rowCount (joint .face .rows) ≡ true
+  pub writing-rows : within rowCounts (joint .face .rows) ≡ true
       → writingRows (fieldsOf joint) (joint .face .rows) (joint .face .levers) buffer ≡ writing joint buffer
   unfolding writing
   writing-rows e = rw e

@@ -1,20 +1,22 @@
 -- What a caller of `read` leans on. The place that it answers lies in the bytes, and what follows it is what is left of them, since what
 -- was read is written to the same bytes; a joint takes some; and the refusal is 0 just where a joint was read. Assumes nothing.
-use Prim.Native.Nat.{ℕ, zero, suc, _-_, _≤_, _<_}
+use Prim.Native.Nat.{ℕ, _-_, _≤_, _<_}
 use mathlib.Core.Path.{_≡_, refl}
-use mathlib.Core.List.{List, [], _∷_}
-use mathlib.Core.Bool.{Bool, true, false, cond, _&&_}
+use mathlib.Core.List.{List}
 use native.Mathlib.Omega.{arith}
-use lib.Dec.{leb, ltb, eqb}
 use lib.ListN.{length, drop, length-append}
 use lib.Seq.{drop-length, drop-at}
+use Rattle.arithmetic.specs.Range.{within}
+use Rattle.joint.specs.Ranges.{rowCounts}
 use Rattle.joint.specs.declared.Joint.{Joint}
-use Rattle.jointfile.specs.Outcome.{Outcome, got, refused, after}
-use Rattle.jointfile.specs.Number.{above, readGroups, readNumber, Bytes}
-use Rattle.jointfile.specs.Fields.{fieldsOf}
-use Rattle.jointfile.specs.File.{rowCount, readNumbers, readOthers, readJoint, answer, reading, leftOf, restOf}
-use Rattle.jointfile.specs.Write.{storedAll, fileOf, file}
-use Rattle.jointfile.proofs.Sizes.{groups-positive}
+use Rattle.numbers.specs.Run.{readNumbers, storedAll}
+use Rattle.numbers.specs.Outcome.{Outcome, got, refused}
+use Rattle.numbers.specs.Number.{readNumber, Bytes}
+use Rattle.numbers.proofs.Refusals.{Numbered, numbered-cond, numbered-after, numbered-number, numbered-numbers}
+use Rattle.numbers.proofs.Sizes.{groups-positive}
+use Rattle.fields.specs.Fields.{fieldsOf}
+use Rattle.jointfile.specs.File.{readOthers, readJoint, answer, reading, leftOf, restOf}
+use Rattle.jointfile.specs.Write.{fileOf, file}
 use Rattle.jointfile.proofs.RoundTrip.{writes-again}
 
 pub next-within : (bytes : List ℕ) → reading bytes .next ≤ length bytes
@@ -47,44 +49,11 @@ left-shorter bytes joint rest all e =
 
 -- ---- no refusal has the number 0
 
-abbrev Numbered : {A : Type 0} → Outcome A → Type 0
-Numbered (got a left) = Unit {0}
-Numbered (refused r) = 0 < r
-
-numbered-cond : {A : Type 0} (t : Bool) (one other : Outcome A) → Numbered one → Numbered other → Numbered (cond t one other)
-numbered-cond true one other told told′ = told
-numbered-cond false one other told told′ = told′
-
-numbered-after : {A B : Type 0} (outcome : Outcome A) (next : A → List ℕ → Outcome B) → Numbered outcome
-    → ((a : A) (rest : List ℕ) → Numbered (next a rest)) → Numbered (after outcome next)
-numbered-after (got a rest) next told tells = tells a rest
-numbered-after (refused r) next told tells = told
-
-numbered-above : (scale low : ℕ) (outcome : Outcome ℕ) → Numbered outcome → Numbered (above scale low outcome)
-numbered-above scale low (got x rest) told = tt
-numbered-above scale low (refused r) told = told
-
-numbered-number : (before : ℕ) (bytes : List ℕ) → Numbered (readGroups before bytes)
-unfolding readGroups
-numbered-number before [] = omega arith
-numbered-number before (byte ∷ bytes) =
-    let two : Numbered {A = ℕ} (refused 2) = omega arith in
-    numbered-cond (leb 4 before && ltb 15 byte) _ _ two
-    (numbered-cond (ltb byte 128) _ _ (numbered-cond (ltb 0 before && eqb byte 0) _ _ two tt)
-    (numbered-above 128 (byte - 128) (readGroups (suc before) bytes) (numbered-number (suc before) bytes)))
-
-numbered-numbers : (count : ℕ) (bytes : List ℕ) → Numbered (readNumbers count bytes)
-unfolding readNumbers
-numbered-numbers zero bytes = tt
-numbered-numbers (suc count) bytes =
-    numbered-after (readNumber bytes) _ (numbered-number 0 bytes)
-    (λ x rest. numbered-after (readNumbers count rest) _ (numbered-numbers count rest) (λ xs end. tt))
-
 numbered-joint : (bytes : List ℕ) → Numbered (readJoint bytes)
 unfolding readJoint readOthers
 numbered-joint bytes =
     numbered-after (readNumber bytes) _ (numbered-number 0 bytes)
-    (λ rows rest. numbered-cond (rowCount rows) _ _
+    (λ rows rest. numbered-cond (within rowCounts rows) _ _
     (numbered-after (readNumbers 28 rest) _ (numbered-numbers 28 rest)
     (λ others more. numbered-after (readNumbers rows more) _ (numbered-numbers rows more) (λ levers end. tt)))
     (omega arith))

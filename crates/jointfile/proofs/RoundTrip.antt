@@ -1,6 +1,6 @@
 -- The round trip of a joint file. What is written reads back to the same joint, with anything after it, and leaves exactly that; and what
 -- was read, written again, is the same bytes. Number by number from the codec, then field by field. Assumes nothing.
-use Prim.Native.Nat.{ℕ, zero, suc, _+_, _-_, _^_, _≤_, _<_}
+use Prim.Native.Nat.{ℕ, zero, suc, _-_, _^_, _≤_, _<_}
 use mathlib.Core.Path.{_≡_, refl, sym, ap, ap₂, _∙_, subst₂}
 use mathlib.Core.List.{List, [], _∷_, _++_, append-assoc}
 use mathlib.Core.Bool.{Bool, true, false, cond, and-eq-true-iff}
@@ -9,91 +9,22 @@ use native.Mathlib.Omega.{arith}
 use borrow.Author.Tests.{eqb-true}
 use lib.Dec.{leb, eqb}
 use lib.ListN.{length, getD, take, drop, replicate, length-append, length-take, length-drop, take-append-drop, List·getD-eq-default, length-replicate}
-use lib.Seq.{getD-append-add, getD-take, length-take-le, take-at, drop-at}
+use lib.Seq.{getD-take, length-take-le, take-at, drop-at}
+use Rattle.arithmetic.specs.Range.{within}
+use Rattle.joint.specs.Ranges.{rowCounts}
 use Rattle.joint.specs.declared.Joint.{Joint}
-use Rattle.jointfile.specs.Outcome.{Outcome, got, refused, after}
-use Rattle.jointfile.specs.Number.{stored, readNumber, Bytes}
-use Rattle.jointfile.specs.Fields.{jointOf, fieldsOf}
-use Rattle.jointfile.specs.File.{rowCount, readNumbers, eight, readOthers, readJoint}
-use Rattle.jointfile.specs.Write.{storedAll, fileOf, file, allZero, spareZero, placed, writingRows, writing, Held, Writable}
-use Rattle.jointfile.proofs.Codec.{read-stored, stored-read, number-small}
-use Rattle.jointfile.proofs.Sizes.{storedAll-append}
-use Rattle.jointfile.proofs.Axial.{axial-stored, stored-axial}
-use Rattle.jointfile.proofs.Groups.{split}
+use Rattle.numbers.specs.Run.{readNumbers, storedAll, allZero}
+use Rattle.numbers.specs.Outcome.{got, refused, after}
+use Rattle.numbers.specs.Number.{stored, readNumber, Bytes}
+use Rattle.numbers.proofs.RunCodec.{read-storedAll, after-got, bytes-left, TakenAll, taken-all}
+use Rattle.numbers.proofs.Codec.{read-stored, stored-read, number-small}
+use Rattle.numbers.proofs.Sizes.{storedAll-append}
+use Rattle.numbers.proofs.Groups.{split}
+use Rattle.fields.specs.Fields.{jointOf, fieldsOf}
+use Rattle.fields.proofs.Order.{fields-joint, joint-fields}
+use Rattle.jointfile.specs.File.{eight, readOthers, readJoint}
+use Rattle.jointfile.specs.Write.{fileOf, file, spareZero, placed, writingRows, writing, Held, Writable}
 use Rattle.jointfile.proofs.Answers.{row-count-most}
-
--- ---- runs of numbers
-
-read-storedAll : (xs : List ℕ) → ((k : ℕ) → getD xs k 0 < 2 ^ 32) → (left : List ℕ)
-    → readNumbers (length xs) (storedAll xs ++ left) ≡ got xs left
-unfolding storedAll readNumbers
-read-storedAll [] small left = refl
-read-storedAll (x ∷ xs) small left =
-    rw (append-assoc, read-stored x (small 0), read-storedAll xs (λ k. small (suc k)) left)
-
--- one thing read after another: what the first gave, and what the second gave of it
-after-got : {A B : Type 0} (outcome : Outcome A) (next : A → List ℕ → Outcome B) (b : B) (left : List ℕ) → after outcome next ≡ got b left
-    → (a : A) × (rest : List ℕ) × (outcome ≡ got a rest) × (next a rest ≡ got b left)
-after-got (got a rest) next b left e = (a, rest, refl, e)
-after-got (refused r) next b left e = let z : _≡_ {A = ℕ} 0 1 = cc in absurd (omega arith)
-
-bytes-left : (taken left bytes : List ℕ) → taken ++ left ≡ bytes → Bytes bytes → Bytes left
-bytes-left taken left bytes e all k = rw (← getD-append-add taken left k 0, e) (all (length taken + k))
-
--- what was read is the stored forms of the numbers, as many as were asked for
-record TakenAll (bytes : List ℕ) (count : ℕ) (xs left : List ℕ) : Type 0 where
-  form : storedAll xs ++ left ≡ bytes
-  long : length xs ≡ count
-  small : (k : ℕ) → getD xs k 0 < 2 ^ 32
-
-taken-more : (x : ℕ) (bytes rest xs left : List ℕ) (count : ℕ) → stored x ++ rest ≡ bytes → x < 2 ^ 32 → TakenAll rest count xs left
-    → TakenAll bytes (suc count) (x ∷ xs) left
-unfolding storedAll
-taken-more x bytes rest xs left count form small taken =
-    record {
-      form = rw (append-assoc, taken .form) form;
-      long = ap suc (taken .long);
-      small = elim [ zero ↦ small | suc k ↦ taken .small k ];
-    }
-
-taken-all : (count : ℕ) (bytes xs left : List ℕ) → Bytes bytes → readNumbers count bytes ≡ got xs left → TakenAll bytes count xs left
-unfolding readNumbers storedAll
-taken-all zero bytes xs left all e =
-    let none : [] ≡ xs = cc in
-    let whole : bytes ≡ left = cc in
-    rw (← none, ← whole) (record { form = refl; long = refl; small = λ k. omega arith })
-taken-all (suc count) bytes xs left all e =
-    let (x, after-x, first, e₁) = after-got (readNumber bytes) (λ x rest. after (readNumbers count rest) (λ ys end. got (x ∷ ys) end)) xs left e in
-    let (ys, end, others, e₂) = after-got (readNumbers count after-x) (λ ys end. got (x ∷ ys) end) xs left e₁ in
-    let form = stored-read bytes x after-x all first in
-    let is : x ∷ ys ≡ xs = cc in
-    let ends : end ≡ left = cc in
-    subst₂ (λ (zs rest : List ℕ). TakenAll bytes (suc count) zs rest) is ends
-    (taken-more x bytes after-x ys end count form (number-small bytes x after-x all first)
-    (taken-all count after-x ys end (bytes-left (stored x) after-x bytes form all) others))
-
--- ---- fields
-
-tabulate : ℕ → (ℕ → ℕ) → List ℕ
-tabulate zero f = []
-tabulate (suc n) f = f 0 ∷ tabulate n (λ k. f (suc k))
-
-tabulate-getD : (n : ℕ) (xs : List ℕ) → length xs ≡ n → tabulate n (λ k. getD xs k 0) ≡ xs
-unfolding tabulate
-tabulate-getD zero [] long = refl
-tabulate-getD zero (x ∷ xs) long = absurd (omega arith)
-tabulate-getD (suc n) [] long = absurd (omega arith)
-tabulate-getD (suc n) (x ∷ xs) long = ap (λ (l : List ℕ). x ∷ l) (tabulate-getD n xs (omega arith))
-
--- a joint has the fields that it was made of
-fields-joint : (fields levers : List ℕ) → length fields ≡ 29 → fieldsOf (jointOf fields levers) ≡ fields
-unfolding fieldsOf jointOf tabulate
-fields-joint fields levers long = rw stored-axial (tabulate-getD 29 fields long)
-
--- a joint is made of its fields
-joint-fields : (joint : Joint) → jointOf (fieldsOf joint) (joint .face .levers) ≡ joint
-unfolding fieldsOf jointOf
-joint-fields joint = rw axial-stored
 
 -- ---- levers
 
@@ -136,7 +67,7 @@ zeros-zero (suc n) = zeros-zero n
 
 -- ---- what is written reads back
 
-read-file : (rows : ℕ) (others levers left : List ℕ) → rowCount rows ≡ true → length others ≡ 28 → length levers ≡ rows
+read-file : (rows : ℕ) (others levers left : List ℕ) → within rowCounts rows ≡ true → length others ≡ 28 → length levers ≡ rows
     → rows < 2 ^ 32 → ((k : ℕ) → getD others k 0 < 2 ^ 32) → ((k : ℕ) → getD levers k 0 < 2 ^ 32)
     → readJoint (storedAll ((rows ∷ others) ++ levers) ++ left) ≡ got (jointOf (rows ∷ others) (eight levers)) left
 unfolding readJoint readOthers storedAll
@@ -161,9 +92,9 @@ reads-back joint held writable left =
 -- A joint that is refused for neither 3 nor 6, whatever the buffer.
 pub writable : (joint : Joint) (buffer : List ℕ) → (writing joint buffer .refusal ≡ 3 → ⊥) → (writing joint buffer .refusal ≡ 6 → ⊥) → Writable joint
 unfolding writing writingRows
-writable joint buffer not-3 not-6 = go (rowCount (joint .face .rows)) refl (spareZero joint) refl
+writable joint buffer not-3 not-6 = go (within rowCounts (joint .face .rows)) refl (spareZero joint) refl
   where
-    go : (t : Bool) → rowCount (joint .face .rows) ≡ t → (u : Bool) → spareZero joint ≡ u → Writable joint
+    go : (t : Bool) → within rowCounts (joint .face .rows) ≡ t → (u : Bool) → spareZero joint ≡ u → Writable joint
     go true rows true spare = record { rows = rows; spare = spare }
     go true rows false spare = absurd (not-6 (rw (rows, spare)))
     go false rows u spare = absurd (not-3 (rw rows))
@@ -192,7 +123,7 @@ pub record Took (bytes : List ℕ) (joint : Joint) (left : List ℕ) : Type 0 wh
   pub held : Held joint
   pub writable : Writable joint
 
-module _ (rows : ℕ) (others levers bytes bytes₁ bytes₂ left : List ℕ) (count : rowCount rows ≡ true) (small : rows < 2 ^ 32)
+module _ (rows : ℕ) (others levers bytes bytes₁ bytes₂ left : List ℕ) (count : within rowCounts rows ≡ true) (small : rows < 2 ^ 32)
     (first : stored rows ++ bytes₁ ≡ bytes) (taken : TakenAll bytes₁ 28 others bytes₂) (taken′ : TakenAll bytes₂ rows levers left) where
   same-fields : fieldsOf (jointOf (rows ∷ others) (eight levers)) ≡ rows ∷ others
   same-fields = fields-joint (rows ∷ others) (eight levers) (ap suc (taken .long))
@@ -224,7 +155,7 @@ module _ (rows : ℕ) (others levers bytes bytes₁ bytes₂ left : List ℕ) (c
 
 -- field 1 was read, and then the rest
 took-others : (bytes : List ℕ) (rows : ℕ) (bytes₁ : List ℕ) (joint : Joint) (left : List ℕ) → Bytes bytes → readNumber bytes ≡ got rows bytes₁
-    → rowCount rows ≡ true → readOthers rows bytes₁ ≡ got joint left → Took bytes joint left
+    → within rowCounts rows ≡ true → readOthers rows bytes₁ ≡ got joint left → Took bytes joint left
 unfolding readOthers
 took-others bytes rows bytes₁ joint left all first count e =
     let (others, bytes₂, read, e₁) =
@@ -244,10 +175,10 @@ pub writes-again : (bytes : List ℕ) (joint : Joint) (left : List ℕ) → Byte
 unfolding readJoint
 writes-again bytes joint left all e =
     let (rows, bytes₁, first, e₁) =
-    after-got (readNumber bytes) (λ rows rest. cond (rowCount rows) (readOthers rows rest) (refused 3)) joint left e in
-    counted rows bytes₁ first (rowCount rows) refl e₁
+    after-got (readNumber bytes) (λ rows rest. cond (within rowCounts rows) (readOthers rows rest) (refused 3)) joint left e in
+    counted rows bytes₁ first (within rowCounts rows) refl e₁
   where
-    counted : (rows : ℕ) (bytes₁ : List ℕ) → readNumber bytes ≡ got rows bytes₁ → (t : Bool) → rowCount rows ≡ t
+    counted : (rows : ℕ) (bytes₁ : List ℕ) → readNumber bytes ≡ got rows bytes₁ → (t : Bool) → within rowCounts rows ≡ t
         → cond t (readOthers rows bytes₁) (refused 3) ≡ got joint left → Took bytes joint left
     counted rows bytes₁ first true count e₁ = took-others bytes rows bytes₁ joint left all first count e₁
     counted rows bytes₁ first false count e₁ = let z : _≡_ {A = ℕ} 0 1 = cc in absurd (omega arith)

@@ -1,28 +1,17 @@
 -- Reading a joint file (document 01, Read): field 1, the other 28 fields and a lever for each row, one number after another, with the
 -- refusal of the first trouble; and what is left after it. Assumes nothing.
-use Prim.Native.Nat.{ℕ, zero, suc, _-_, _≤_}
-use mathlib.Core.Path.{_≡_}
+use Prim.Native.Nat.{ℕ, _-_}
 use mathlib.Core.List.{List, [], _∷_, _++_}
-use mathlib.Core.Bool.{Bool, cond, _&&_}
-use lib.Dec.{leb}
-use lib.ListN.{length, drop, replicate}
+use mathlib.Core.Bool.{cond}
+use lib.ListN.{length, replicate}
+use Rattle.arithmetic.specs.Range.{within}
+use Rattle.joint.specs.Ranges.{rowCounts}
 use Rattle.joint.specs.declared.Joint.{Joint}
-use Rattle.jointfile.specs.Outcome.{Outcome, got, refused, after}
-use Rattle.jointfile.specs.Number.{readNumber}
-use Rattle.jointfile.specs.Fields.{jointOf}
+use Rattle.numbers.specs.Outcome.{Outcome, got, refused, after}
+use Rattle.numbers.specs.Number.{readNumber}
+use Rattle.numbers.specs.Run.{readNumbers}
+use Rattle.fields.specs.Fields.{jointOf}
 use Rattle.jointfile.specs.declared.Reading.{Reading}
-use Rattle.jointfile.specs.declared.run.Run.{Run}
-use Rattle.jointfile.specs.declared.run.Run.the-variants.{Next, Refused}
-
--- The row counts that there are, 1 to 8: said here, and nowhere else.
-unfoldable pub rowCount : ℕ → Bool
-rowCount rows = leb 1 rows && leb rows 8
-
--- so many numbers, one after another
-unfoldable pub readNumbers : ℕ → List ℕ → Outcome (List ℕ)
-readNumbers zero bytes = got [] bytes
-readNumbers (suc count) bytes =
-    after (readNumber bytes) (λ x left. after (readNumbers count left) (λ xs rest. got (x ∷ xs) rest))
 
 -- the levers of the rows, and 0 for each spare one up to eight
 abbrev pub eight : List ℕ → List ℕ
@@ -36,7 +25,7 @@ readOthers rows bytes =
 
 -- A joint: 3 is told when field 1 is read, before anything of field 2 is; no other range is looked at.
 unfoldable pub readJoint : List ℕ → Outcome Joint
-readJoint bytes = after (readNumber bytes) (λ rows left. cond (rowCount rows) (readOthers rows left) (refused 3))
+readJoint bytes = after (readNumber bytes) (λ rows left. cond (within rowCounts rows) (readOthers rows left) (refused 3))
 
 -- What stands in the joint's place in a refusal: every field is 0.
 unfoldable pub noJoint : Joint
@@ -57,23 +46,3 @@ leftOf (refused r) = []
 
 abbrev pub restOf : List ℕ → List ℕ
 restOf bytes = leftOf (readJoint bytes)
-
--- What each case of the enum `Run` says, where the numbers that were read stand in `values`.
-abbrev pub runTold : List ℕ → List ℕ → Run → Outcome (List ℕ)
-runTold bytes values (Next next) = got values (drop next bytes)
-runTold bytes values (Refused r) = refused r
-
--- the place after the run, where it was read
-abbrev pub endPlace : Run → ℕ
-endPlace (Next next) = next
-endPlace (Refused r) = 0
-
--- document 01's number of a refusal, and 0 of a run that was read
-abbrev pub runRefusal : Run → ℕ
-runRefusal (Next next) = 0
-runRefusal (Refused r) = r
-
--- The answer to reading a run of numbers at a place.
-pub record RunRead (bytes : List ℕ) (from count : ℕ) (values : List ℕ) (run : Run) : Type 0 where
-  pub told : runTold bytes values run ≡ readNumbers count (drop from bytes)
-  pub within : endPlace run ≤ length bytes

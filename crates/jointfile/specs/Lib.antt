@@ -1,7 +1,4 @@
--- What a joint file is: a number of it, the order of its fields, reading one and writing one, each in a file of its own.
+-- What a joint file is: reading one and writing one. Its numbers are those of the crate `numbers`, and their order is that of `fields`.
 -- The definitions compute, and assume nothing.
-pub mod Outcome
-pub mod Number
-pub mod Fields
 pub mod File
 pub mod Write

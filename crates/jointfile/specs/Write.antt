@@ -1,28 +1,18 @@
 -- Writing a joint file (document 01, Write): the file of a joint, what is refused in which order, and what the buffer holds afterwards.
 -- Assumes nothing.
-use Prim.Native.Nat.{ℕ, _+_, _^_, _<_}
+use Prim.Native.Nat.{ℕ, _^_, _<_}
 use mathlib.Core.Path.{_≡_}
-use mathlib.Core.List.{List, [], _∷_, _++_}
-use mathlib.Core.Bool.{Bool, true, cond, _&&_}
-use lib.Dec.{leb, eqb}
+use mathlib.Core.List.{List, _++_}
+use mathlib.Core.Bool.{Bool, true, cond}
+use lib.Dec.{leb}
 use lib.ListN.{length, getD, take, drop}
-use lib.Seq.{sets}
+use Rattle.arithmetic.specs.Range.{within}
+use Rattle.joint.specs.Ranges.{rowCounts}
 use Rattle.joint.specs.declared.Joint.{Joint}
-use Rattle.jointfile.specs.Number.{stored}
-use Rattle.jointfile.specs.Fields.{fieldsOf}
-use Rattle.jointfile.specs.File.{rowCount}
+use Rattle.numbers.specs.Run.{storedAll, allZero}
+use Rattle.fields.specs.Fields.{fieldsOf}
 use Rattle.jointfile.specs.declared.Written.{Written}
 use Rattle.jointfile.specs.declared.Written.the-variants.{Length, Refused}
-
--- the stored forms of numbers, one after another
-unfoldable pub storedAll : List ℕ → List ℕ
-storedAll [] = []
-storedAll (x ∷ xs) = stored x ++ storedAll xs
-
--- Bytes put into a buffer from a place on, with the place after them.
-pub record Put (buffer : List ℕ) (from : ℕ) (bytes exit : List ℕ) (next : ℕ) : Type 0 where
-  pub place : next ≡ from + length bytes
-  pub stores : exit ≡ sets buffer from bytes
 
 -- the 29 + n numbers of a file: the fields, and a lever for each row
 unfoldable pub fileOf : List ℕ → ℕ → List ℕ → List ℕ
@@ -30,11 +20,6 @@ fileOf fields rows levers = storedAll (fields ++ take rows levers)
 
 abbrev pub file : Joint → List ℕ
 file joint = fileOf (fieldsOf joint) (joint .face .rows) (joint .face .levers)
-
--- each of the numbers is 0
-unfoldable pub allZero : List ℕ → Bool
-allZero [] = true
-allZero (x ∷ xs) = eqb x 0 && allZero xs
 
 -- each spare lever is 0
 abbrev pub spareZero : Joint → Bool
@@ -66,7 +51,7 @@ writingRows fields rows levers buffer =
 -- 3: the row count is none; then 6 and 5
 unfoldable pub writing : Joint → List ℕ → Writing
 writing joint buffer =
-    cond (rowCount (joint .face .rows))
+    cond (within rowCounts (joint .face .rows))
     (writingRows (fieldsOf joint) (joint .face .rows) (joint .face .levers) buffer)
     (turnedDown buffer 3)
 
@@ -84,5 +69,5 @@ pub record Held (joint : Joint) : Type 0 where
 
 -- A joint that is refused by neither 3 nor 6.
 pub record Writable (joint : Joint) : Type 0 where
-  pub rows : rowCount (joint .face .rows) ≡ true
+  pub rows : within rowCounts (joint .face .rows) ≡ true
   pub spare : spareZero joint ≡ true

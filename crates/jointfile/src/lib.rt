@@ -2,29 +2,28 @@
 // lent buffer. Each goes over the bytes once, from front to back. Two things are done twice, for a reason. `write` measures the
 // numbers before it puts them, since a buffer that is too short stays untouched. And `rest` reads the joint again; a caller that has
 // `read`'s answer need not ask it, since the bytes from the answer's next place on are what is left.
-mod fields;
-mod number;
-mod run;
-
 use fields::fields_of;
 use fields::joint_of;
 use joint::Joint;
-use number::Number;
-use number::number_at;
-use number::refusal_of;
-use run::Run;
-use run::all_zero;
-use run::numbers_at;
-use run::put_numbers;
-use run::run_refusal;
-use run::stored_size;
+use numbers::number::Number;
+use numbers::number::number_at;
+use numbers::number::refusal_of;
+use numbers::run::Run;
+use numbers::run::all_zero;
+use numbers::run::numbers_at;
+use numbers::run::put_numbers;
+use numbers::run::run_refusal;
+use numbers::run::stored_size;
 ghost use Prim.Native.Nat.{_≤_};
 ghost use mathlib.Core.Path.{_≡_};
 ghost use mathlib.Core.List.{_++_};
 ghost use lib.ListN.{length, drop};
-ghost use Rattle.jointfile.specs.Outcome.{refused};
-ghost use Rattle.jointfile.specs.File.{rowCount, readOthers, answer, reading, restOf};
-ghost use Rattle.jointfile.specs.Write.{storedAll, placed, writingRows, writing, writtenTold};
+ghost use Rattle.arithmetic.specs.Range.{within};
+ghost use Rattle.joint.specs.Ranges.{rowCounts};
+ghost use Rattle.numbers.specs.Outcome.{refused};
+ghost use Rattle.numbers.specs.Run.{storedAll};
+ghost use Rattle.jointfile.specs.File.{readOthers, answer, reading, restOf};
+ghost use Rattle.jointfile.specs.Write.{placed, writingRows, writing, writtenTold};
 
 // What `read` answers.
 pub struct Reading {
@@ -38,7 +37,7 @@ pub struct Reading {
 
 // Whether a joint may have so many rows.
 fn is_row_count(rows: u32) -> bool
-    ensures { λ r. ⌜ r ≡ rowCount rows ⌝ }
+    ensures { λ r. ⌜ r ≡ within rowCounts rows ⌝ }
 {
     (1 <= rows) & (rows <= 8)
 }

@@ -109,6 +109,7 @@ module _ (n : ℕ) (limit : Table) (few : n ≤ 8) where
   finish table next i j f past =
       let all : i ≡ n = omega (arith, f .rows) in
       record {
+        size = f .size;
         agrees = λ a b h inside.
             f .agrees a b h inside (omega (arith, f .place, ap (groupsAbove n) all, all-groups n, groups-inside n a (omega arith)));
         bounded = f .bounded;

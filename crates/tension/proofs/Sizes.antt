@@ -5,13 +5,13 @@ use mathlib.Core.Bool.{Bool, true, false, cond}
 use Prim.Native.Nat.{ℕ, zero, suc, _+_, _*_, _/_, _≤_, _<_, min, zero-le}
 use native.Mathlib.Nat.{le-refl, le-trans, le-suc-iff, min-le-left, min-le-right}
 use mathlib.Core.Logic.{⊎-elim}
-use native.Mathlib.Decide.{decLt}
 use native.Mathlib.Omega.{arith}
 use lib.Dec.{T, eqb, ltb}
-use lib.ListN.{length, getD, List·getD-eq-default}
+use lib.ListN.{getD}
 use Rattle.arithmetic.specs.Range.{Within, _to_}
 use Rattle.arithmetic.proofs.Bounds.{exactly, _⊗_, _⊕_, _⊘_, loosen}
 use Rattle.joint.specs.declared.Joint.{Joint}
+use Rattle.joint.proofs.InRange.{lever-most}
 use Rattle.strength.specs.Steel.{steelStrengths}
 use Rattle.strength.specs.Bolt.{pairTension}
 use Rattle.strength.specs.declared.SteelStrengths.{SteelStrengths}
@@ -65,20 +65,9 @@ pub record Sizes (joint : Joint) (spacing : Spacing) (steel : SteelStrengths) (p
   pub pair-most : Within (0 to 785400) pair
 
 module _ (joint : Joint) (a : Admissible joint) where
-  pub lever-le : (row : ℕ) → getD (joint .face .levers) row 0 ≤ 20000
-  lever-le row =
-      elim (decLt row (length (joint .face .levers))) [
-        | yes h ↦ high (ltb row (joint .face .rows)) (a .in-range .face .lever row h)
-        | no h ↦ rw (List·getD-eq-default (joint .face .levers) 0 {n = row} (omega arith)) zero-le
-      ]
-    where
-      high : (used : Bool) {x : ℕ} → Within (cond used (1 to 20000) (0 to 0)) x → x ≤ 20000
-      high true w = w .high
-      high false w = omega (arith, w .high)
-
   -- no lever is above one over it, however far down
   pub levers-of : Levers (joint .face .rows) (joint .face .levers)
-  levers-of = record { rows = a .in-range .face .rows .high; fall = λ i j h inside. fall i j h inside; high = λ i h. lever-le i }
+  levers-of = record { rows = a .in-range .face .rows .high; fall = λ i j h inside. fall i j h inside; high = λ i h. lever-most (joint .face) (a .in-range .face) i }
     where
       fall : (i j : ℕ) → i ≤ j → j < joint .face .rows → getD (joint .face .levers) j 0 ≤ getD (joint .face .levers) i 0
       fall i zero h inside = let top : i ≡ 0 = omega arith in rw top (le-refl _)
@@ -99,7 +88,7 @@ module _ (joint : Joint) (a : Admissible joint) where
         plate-edge = record { low = a .plate-edge; high = omega (arith, f .plate .width .high) };
         extension = λ e. record {
           low = a .extension-m (omega (arith, f .extended .high));
-          high = omega (arith, lever-le 0, f .beam .flange .high);
+          high = omega (arith, lever-most (joint .face) (a .in-range .face) 0, f .beam .flange .high);
         };
         yc = loosen (0 to 355) (steel .column) tt;
         yb = loosen (0 to 355) (steel .beam) tt;
@@ -120,7 +109,7 @@ module _ (joint : Joint) (a : Admissible joint) where
           edge-most = record { low = zero-le; high = h };
           thickness = loosen (0 to 500) (a .in-range .column .flange) tt;
           strength = s .yc;
-          pair = s .pair-most
+          pair = s .pair-most;
         }
 
     pub plate-parts : (edge : ℕ) → edge ≤ 30000 → StubParts (spacing .plate) edge (joint .face .plate .thickness) (steel .plate) pair
@@ -131,7 +120,7 @@ module _ (joint : Joint) (a : Admissible joint) where
           edge-most = record { low = zero-le; high = h };
           thickness = loosen (0 to 500) (a .in-range .face .plate .thickness) tt;
           strength = s .yp;
-          pair = s .pair-most
+          pair = s .pair-most;
         }
 
     pub edge-field-le : joint .face .layout .edge ≤ 2000

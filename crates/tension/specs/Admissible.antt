@@ -3,7 +3,7 @@
 use mathlib.Core.Path.{_≡_}
 use Prim.Native.Nat.{ℕ, suc, _≤_, _<_}
 use mathlib.Core.List.{List}
-use lib.ListN.{getD}
+use lib.ListN.{length, getD}
 use Rattle.joint.specs.declared.Joint.{Joint}
 use Rattle.joint.specs.InRange.{InRange}
 use Rattle.strength.specs.Steel.{steelStrengths}
@@ -38,7 +38,9 @@ pub record Levers (n : ℕ) (levers : List ℕ) : Type 0 where
   pub fall : (i j : ℕ) → i ≤ j → j < n → getD levers j 0 ≤ getD levers i 0
   pub high : (i : ℕ) → i < n → getD levers i 0 ≤ 20000
 
--- A list of limits in Allocate's order that agrees with a table on every group of n rows, and has no limit that Allocate refuses.
+-- A list of limits in Allocate's order, with places for eight rows, that agrees with a table on every group of n rows and has no
+-- limit that Allocate refuses.
 pub record Filled (n : ℕ) (limit : Table) (limits : List ℕ) : Type 0 where
+  pub size : length limits ≡ 36
   pub agrees : (i j : ℕ) → i ≤ j → j < n → listed n limits i j ≡ limit i j
   pub bounded : (k : ℕ) → getD limits k 0 ≤ 4000000000

@@ -6,11 +6,11 @@ use Prim.Native.Nat.{ℕ, zero, suc, _+_, _-_, _*_, _≤_, _<_}
 use native.Mathlib.Nat.{add-zero, lt-of-not-le, not-le-of-lt}
 use native.Mathlib.Omega.{arith}
 use lib.Dec.{leb, ltb}
-use lib.IntN.{ℤ, pos, negsuc, natAbs, negℤ-negℤ, _-ℤ_, _*ℤ_}
+use lib.IntN.{ℤ, pos, negsuc, negℤ-negℤ, _-ℤ_, _*ℤ_}
 use lib.Signed.{leZ}
 use borrow.Author.Tests.{le-leb, lt-leb, ltb-true, ltb-false, leb-true, leb-false}
 use Rattle.joint.specs.Axial.{axialForce}
-use Rattle.joint.specs.declared.AxialForce.{AxialForce}
+use Rattle.joint.proofs.Axial.{is-compression, is-tension}
 use Rattle.joint.specs.declared.AxialForce.the-variants.{Compression, Tension}
 use Rattle.joint.specs.declared.Beam.{Beam}
 use Rattle.joint.specs.declared.Loads.{Loads}
@@ -37,32 +37,15 @@ less-le a (suc b) c = go (ltb a (suc b)) refl
 plus-le : (a m d c : ℕ) → leZ (pos a -ℤ negsuc m *ℤ pos d) (pos c) ≡ leb (a + suc m * d) c
 plus-le a m d c = rw negℤ-negℤ
 
-is-compression : (z : ℤ) (n : ℕ) → axialForce z ≡ Compression n → z ≡ pos n
-unfolding axialForce
-is-compression (pos m) n e = cc
-is-compression (negsuc m) n e = let never : _≡_ {A = ℕ} 0 1 = cc in absurd (omega arith)
-
-is-tension : (z : ℤ) (n : ℕ) → axialForce z ≡ Tension n → (m : ℕ) × (n ≡ suc m) × (z ≡ negsuc m)
-unfolding axialForce
-is-tension (pos m) n e = let never : _≡_ {A = ℕ} 0 1 = cc in absurd (omega arith)
-is-tension (negsuc m) n e = (m, cc, refl)
-
--- the size of N is that of its case
-pub size-of-compression : (z : ℤ) (n : ℕ) → axialForce z ≡ Compression n → n ≡ natAbs z
-size-of-compression z n e = sym (ap natAbs (is-compression z n e))
-
-pub size-of-tension : (z : ℤ) (n : ℕ) → axialForce z ≡ Tension n → n ≡ natAbs z
-size-of-tension z n e = let m = is-tension z n e in m .1 ∙ sym (ap natAbs (m .2))
-
 module _ (loads : Loads) (beam : Beam) (z : ℕ) where
   pub compressed : (n : ℕ) → axialForce (loads .axial) ≡ Compression n
-    → leb (20000 * loads .moment) (2 * z + n * (beam .depth - beam .flange)) ≡ carries loads beam z
+      → leb (20000 * loads .moment) (2 * z + n * (beam .depth - beam .flange)) ≡ carries loads beam z
   unfolding carries
   compressed n e =
       rw (is-compression (loads .axial) n e) (sym (less-le (20000 * loads .moment) (n * (beam .depth - beam .flange)) (2 * z)))
 
   pub pulled : (n : ℕ) → axialForce (loads .axial) ≡ Tension n
-    → leb (20000 * loads .moment + n * (beam .depth - beam .flange)) (2 * z) ≡ carries loads beam z
+      → leb (20000 * loads .moment + n * (beam .depth - beam .flange)) (2 * z) ≡ carries loads beam z
   unfolding carries
   pulled n e =
       let m = is-tension (loads .axial) n e in

@@ -62,7 +62,7 @@ one-more levers forces sum z pulling row hl hf low small has eh c =
     let ls = take-suc levers row 0 hl in
     let fs = take-suc forces row 0 hf in
     let same : length (take row levers) ≡ length (take row forces)
-          = length-take-le row levers (omega arith) ∙ sym (length-take-le row forces (omega arith)) in
+    = length-take-le row levers (omega arith) ∙ sym (length-take-le row forces (omega arith)) in
     let product = mul-le-mul {n₁ = f} {m₁ = h} {n₂ = 4000000000} {m₂ = 20000} small low in
     rw one
     (record {
@@ -71,10 +71,10 @@ one-more levers forces sum z pulling row hl hf low small has eh c =
       pulls = ap₂ (λ p q. p + q) (c .pulls) eh ∙ sym (pulling-snoc (take row forces) f) ∙ ap pullingRows (sym fs);
       sum-le = omega (arith, c .sum-le);
       moment-le = omega (arith, c .moment-le);
-      pulling-le = omega (arith, c .pulling-le, eh, either-le (eqb f 0))
+      pulling-le = omega (arith, c .pulling-le, eh, either-le (eqb f 0));
     })
 
-pulling-le-length : (forces : List ℕ) → pullingRows forces ≤ length forces
+pub pulling-le-length : (forces : List ℕ) → pullingRows forces ≤ length forces
 unfolding pullingRows
 pulling-le-length [] = omega arith
 pulling-le-length (x ∷ xs) = omega (arith, either-le (eqb x 0), pulling-le-length xs)
@@ -87,9 +87,9 @@ by-kind idle pulling [] = omega (arith, zero-mul pulling, zero-mul idle)
 by-kind idle pulling (x ∷ xs) = one (eqb x 0) (by-kind idle pulling xs) (pulling-le-length xs)
   where
     one : (none : Bool) → total (map (λ f. cond (eqb f 0) idle pulling) xs) ≡ pullingRows xs * pulling + (length xs - pullingRows xs) * idle
-      → pullingRows xs ≤ length xs
-      → cond none idle pulling + total (map (λ f. cond (eqb f 0) idle pulling) xs)
-      ≡ (cond none 0 1 + pullingRows xs) * pulling + (suc (length xs) - (cond none 0 1 + pullingRows xs)) * idle
+        → pullingRows xs ≤ length xs
+        → cond none idle pulling + total (map (λ f. cond (eqb f 0) idle pulling) xs)
+        ≡ (cond none 0 1 + pullingRows xs) * pulling + (suc (length xs) - (cond none 0 1 + pullingRows xs)) * idle
     one true rest le =
         let k : suc (length xs) - (0 + pullingRows xs) ≡ suc (length xs - pullingRows xs) = omega arith in
         rw (k, zero-add, suc-mul (length xs - pullingRows xs) idle) (omega arith)
@@ -103,8 +103,10 @@ pub total-by-kind : (bolts : Bolts) (column : Column) (plate : Plate) (shearRows
     ≡ boltTotal bolts column plate shearRows forces
 unfolding boltTotal
 total-by-kind bolts column plate shearRows forces =
-    rw (by-kind (idlePair bolts column plate) (pullingPair bolts column plate) forces,
-      add-mul (length forces - pullingRows forces) shearRows (idlePair bolts column plate)) (omega arith)
+    rw (
+      by-kind (idlePair bolts column plate) (pullingPair bolts column plate) forces,
+      add-mul (length forces - pullingRows forces) shearRows (idlePair bolts column plate),
+    ) (omega arith)
 
 -- the first rows of a list, one by one; a row that it lacks is 0
 pub top-two : (forces : List ℕ) → getD forces 0 0 + getD forces 1 0 ≡ total (take 2 forces)

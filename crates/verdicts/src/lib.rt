@@ -35,7 +35,7 @@ pub struct Tally {
 
 pub fn tally_forces(rows: usize, levers: [u32; 8], forces: [u64; 8]) -> Tally
     requires { ⌜ (rows ≤ 8) × ((k : ℕ) → getD levers k 0 ≤ 20000) × ((k : ℕ) → getD forces k 0 ≤ 4000000000) ⌝ }
-    ensures { λ r. ⌜ r ≡ tallyOf (take rows levers) (take rows forces) ⌝ }
+    ensures { λ r. ⌜ (r ≡ tallyOf (take rows levers) (take rows forces)) × (r .moment ≤ 1000000000000000) ⌝ }
 {
     let mut sum = 0;
     let mut moment = 0;
@@ -136,11 +136,7 @@ pub fn top_rows(extended: u32, forces: [u64; 8]) -> u64
     ensures { λ r. ⌜ r ≡ topRows extended forces ⌝ }
 {
     let two = forces[0] + forces[1];
-    if extended == 0 {
-        two
-    } else {
-        two + forces[2]
-    }
+    if extended == 0 { two } else { two + forces[2] }
 }
 
 // What a weld of a leg and a length carries.

@@ -27,10 +27,10 @@ pub record Demand3 (joint : Joint) (outcome : Outcome) : Type 0 where
   pub competes : CompetesFor joint (programsList joint outcome)
   -- for whatever list competes, the sum from the top row down to any row is at most the program's
   pub sums : (other : List ℕ) → CompetesFor joint other → (row : ℕ)
-    → total (take row other) ≤ total (take row (programsList joint outcome))
+      → total (take row other) ≤ total (take row (programsList joint outcome))
   -- the list equals the program's exactly when the unrounded moments Z are equal
   pub same : (other : List ℕ) → CompetesFor joint other
-    → (other ≡ programsList joint outcome) ↔ (momentOf joint other ≡ momentOf joint (programsList joint outcome))
+      → (other ≡ programsList joint outcome) ↔ (momentOf joint other ≡ momentOf joint (programsList joint outcome))
   -- the joint fails in bending exactly when no competing list carries the design moment with the design axial force
   pub bending : (outcome .verdicts .bending ≡ false)
-    ↔ ((other : List ℕ) → CompetesFor joint other → carriesOf joint other ≡ false)
+      ↔ ((other : List ℕ) → CompetesFor joint other → carriesOf joint other ≡ false)

@@ -55,9 +55,9 @@ abbrev pub carriesOf : Joint → List ℕ → Bool
 carriesOf joint forces = carries (joint .face .loads) (joint .face .beam) (momentOf joint forces)
 
 abbrev pub verdictsOf : Joint → List ℕ → Verdicts
-verdictsOf joint forces = record
-  { bending = carriesOf joint forces
-  ; bolts = boltsPass (joint .bolts) (joint .column) (joint .face .plate) (joint .face .«shear_rows») (joint .face .loads .shear) forces
-  ; «flange_weld» = flangeWeldPasses (joint .face) forces
-  ; «web_weld» = webWeldPasses (joint .face)
-  }
+verdictsOf joint forces = record {
+  bending = carriesOf joint forces;
+  bolts = boltsPass (joint .bolts) (joint .column) (joint .face .plate) (joint .face .«shear_rows») (joint .face .loads .shear) forces;
+  «flange_weld» = flangeWeldPasses (joint .face) forces;
+  «web_weld» = webWeldPasses (joint .face);
+}

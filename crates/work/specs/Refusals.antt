@@ -20,15 +20,15 @@ belowAbove levers row lever = eqb row 0 || ltb lever (getD levers (row - 1) 0)
 unfoldable pub leversFall : Face → Bool
 leversFall face = every (belowAbove (face .levers)) 0 (take (face .rows) (face .levers))
 
--- 12 'a row out of place: extended row 1 needs 2h > 2Db − Tb, every other row 2h < 2Db − 3Tb'
-abbrev pub inPlace : Face → (row lever : ℕ) → Bool
-inPlace face row lever =
-    cond (ltb row (face .extended))
-    (ltb (2 * face .beam .depth - face .beam .flange) (2 * lever))
-    (ltb (2 * lever) (2 * face .beam .depth - 3 * face .beam .flange))
+-- 12 'a row out of place: extended row 1 needs 2h > 2Db − Tb, every other row 2h < 2Db − 3Tb': rows above the first one under the
+-- flange, 0 if flush and 1 if extended, are held against `over`, the others against `under`
+abbrev pub between : (first over under row lever : ℕ) → Bool
+between first over under row lever = cond (ltb row first) (ltb over (2 * lever)) (ltb (2 * lever) under)
 
 unfoldable pub rowsInPlace : Face → Bool
-rowsInPlace face = every (inPlace face) 0 (take (face .rows) (face .levers))
+rowsInPlace face =
+    let beam = face .beam in
+    every (between (face .extended) (2 * beam .depth - beam .flange) (2 * beam .depth - 3 * beam .flange)) 0 (take (face .rows) (face .levers))
 
 -- 13 'column m, plate m or (if extended) mx under 500, or either e under 1000'
 unfoldable pub tooTight : (extended : ℕ) → Spacing → Bool

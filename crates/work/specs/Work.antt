@@ -27,31 +27,31 @@ use Rattle.outcome.specs.declared.Verdicts.{Verdicts}
 -- 'In a refusal forces, sum, newton metres, cap and governing force are 0, the check named is F, verdicts are no, and the field
 -- number is 0 but for 10.'
 abbrev pub refusedBy : (number field : ℕ) → Outcome
-refusedBy number field = record
-  { refusal = number
-  ; field = field
-  ; forces = replicate 8 0
-  ; sum = 0
-  ; «newton_metres» = 0
-  ; cap = 0
-  ; check = Flange 0
-  ; verdicts = record { bending = false; bolts = false; «flange_weld» = false; «web_weld» = false }
-  }
+refusedBy number field = record {
+  refusal = number;
+  field = field;
+  forces = replicate 8 0;
+  sum = 0;
+  «newton_metres» = 0;
+  cap = 0;
+  check = Flange 0;
+  verdicts = record { bending = false; bolts = false; «flange_weld» = false; «web_weld» = false };
+}
 
 -- The whole result of a joint that isn't refused.
 unfoldable pub resultOf : Joint → Outcome
 resultOf joint =
     let forces = forcesOf joint in
-    record
-      { refusal = 0
-      ; field = 0
-      ; forces = eightPlaces forces
-      ; sum = total forces
-      ; «newton_metres» = newtonMetres (momentOf joint forces)
-      ; cap = capOf joint
-      ; check = governingOf joint
-      ; verdicts = verdictsOf joint forces
-      }
+    record {
+      refusal = 0;
+      field = 0;
+      forces = eightPlaces forces;
+      sum = total forces;
+      «newton_metres» = newtonMetres (momentOf joint forces);
+      cap = capOf joint;
+      check = governingOf joint;
+      verdicts = verdictsOf joint forces;
+    }
 
 -- The tension cap where N isn't above the governing force, by cases: what each case of the enum says.
 unfoldable pub capCase : Loads → (force : ℕ) → Cap

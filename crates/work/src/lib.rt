@@ -1,10 +1,8 @@
 // Work: one joint worked whole (document 01, 'Work'). The refusals in their order, then limits, compression, cap, row forces and
 // verdicts. Rows count from 0.
 ghost use mathlib.Core.Path.{_≡_};
-ghost use mathlib.Core.Bool.{cond};
-ghost use Prim.Native.Nat.{ℕ, _-_, _*_, _≤_, min};
-ghost use lib.Dec.{ltb};
-ghost use lib.ListN.{getD, take};
+ghost use Prim.Native.Nat.{ℕ, _≤_, min};
+ghost use lib.ListN.{length, getD, take};
 ghost use Rattle.arithmetic.specs.Table.{every};
 ghost use Rattle.joint.specs.InRange.{InRange, LoadsInRange};
 ghost use Rattle.strength.specs.Bolt.{boltStrengths};
@@ -14,7 +12,7 @@ ghost use Rattle.allocation.specs.Allocation.{eightPlaces};
 ghost use Rattle.tension.specs.Spacing.{spacingOf};
 ghost use Rattle.tension.specs.Admissible.{Admissible, Measured};
 ghost use Rattle.verdicts.specs.Tally.{tallyOf};
-ghost use Rattle.work.specs.Refusals.{belowAbove, rowsInPlace, tooTight, PlacesInRange};
+ghost use Rattle.work.specs.Refusals.{belowAbove, between, rowsInPlace, tooTight, PlacesInRange};
 ghost use Rattle.work.specs.Joint.{rowsOf, leversOf, limitOf, steelOf, governingOf, capOf, forcesOf, verdictsOf};
 ghost use Rattle.work.specs.Work.{capCase, refusedBy, resultOf, fromThickness, fromLevers, worked};
 ghost use Rattle.work.specs.Demand.{Demand3};
@@ -71,7 +69,8 @@ fn refused(number: u32, field: u32) -> Outcome
 // A joint whose fields are in range: refusals 11, 12 and 13 come next.
 fn work_levers(joint: Joint) -> Outcome
     requires { ⌜ InRange joint ⌝ }
-    ensures { λ r. ⌜ r ≡ fromLevers joint ⌝ }
+    ensures equals { λ r. ⌜ r ≡ fromLevers joint ⌝ }
+    ensures demand { λ r. ⌜ (r .refusal ≡ 0 → Demand3 joint r) ⌝ }
 {
     let face = joint.face;
     let levers = face.levers;
@@ -109,10 +108,10 @@ fn work_thickness(joint: Joint, spacing: Spacing) -> Outcome
     result_of(joint, spacing, steel, bolt, check, cap)
 }
 
-// Every other lever is below the one above it.
+// Every lever but the first is below the one above it. (A list of eight levers has eight: said for the caller's sake.)
 fn levers_fall(rows: usize, levers: [u32; 8]) -> bool
     requires { ⌜ rows ≤ 8 ⌝ }
-    ensures { λ r. ⌜ r ≡ every (belowAbove levers) 0 (take rows levers) ⌝ }
+    ensures { λ r. ⌜ (r ≡ every (belowAbove levers) 0 (take rows levers)) × (length levers ≡ 8) ⌝ }
 {
     let mut row = 1;
     while row < rows {
@@ -124,34 +123,47 @@ fn levers_fall(rows: usize, levers: [u32; 8]) -> bool
     true
 }
 
-// A row above the first under the flange stands over the beam, every other one under its flange.
-fn in_place(row: u32, first: u32, above: u32, below: u32, lever: u32) -> bool
-    requires { ⌜ lever ≤ 20000 ⌝ }
-    ensures { λ r. ⌜ r ≡ cond (ltb row first) (ltb above (2 * lever)) (ltb (2 * lever) below) ⌝ }
-{
-    if row < first {
-        above < 2 * lever
-    } else {
-        2 * lever < below
-    }
-}
-
+// Extended row 1 stands over the beam, every other row under its flange.
 fn rows_in_place(face: Face) -> bool
     requires { ⌜ PlacesInRange face ⌝ }
     ensures { λ r. ⌜ r ≡ rowsInPlace face ⌝ }
 {
     let levers = face.levers;
-    let above = 2 * face.beam.depth - face.beam.flange;
-    let below = 2 * face.beam.depth - 3 * face.beam.flange;
-    let mut row: u32 = 0;
-    while row < face.rows {
-        let lever = levers[row as usize];
-        if !in_place(row, face.extended, above, below, lever) {
+    let depth = face.beam.depth;
+    let flange = face.beam.flange;
+    all_between(
+        face.rows as usize,
+        levers,
+        face.extended as usize,
+        2 * depth - flange,
+        2 * depth - 3 * flange,
+    )
+}
+
+// Twice each lever: over the one bound above the first row under the flange, under the other from there on.
+fn all_between(rows: usize, levers: [u32; 8], first: usize, over: u32, under: u32) -> bool
+    requires { ⌜ (rows ≤ 8) × ((k : ℕ) → getD levers k 0 ≤ 20000) ⌝ }
+    ensures { λ r. ⌜ r ≡ every (between first over under) 0 (take rows levers) ⌝ }
+{
+    let mut row = 0;
+    while row < rows {
+        if !is_between(row, first, over, under, levers[row]) {
             return false;
         }
         row += 1;
     }
     true
+}
+
+fn is_between(row: usize, first: usize, over: u32, under: u32, lever: u32) -> bool
+    requires { ⌜ lever ≤ 20000 ⌝ }
+    ensures { λ r. ⌜ r ≡ between first over under row lever ⌝ }
+{
+    if row < first {
+        over < 2 * lever
+    } else {
+        2 * lever < under
+    }
 }
 
 fn too_tight(extended: u32, spacing: Spacing) -> bool
@@ -182,10 +194,17 @@ fn tension_cap(force: u64, loads: Loads) -> Cap
 }
 
 // The forces of the joint's rows, under the limits of all groups and the cap on them together.
-fn row_forces(joint: Joint, spacing: Spacing, steel: SteelStrengths, pair: u64, cap: u64) -> [u64; 8]
+fn row_forces(
+    joint: Joint,
+    spacing: Spacing,
+    steel: SteelStrengths,
+    pair: u64,
+    cap: u64,
+) -> [u64; 8]
     requires { ⌜ Admissible joint ⌝ }
     requires { ⌜ Measured joint spacing steel pair ⌝ }
     ensures { λ r. ⌜ r ≡ eightPlaces (shared (joined (limitOf joint) (rowsOf joint) cap) (rowsOf joint)) ⌝ }
+    ensures { λ r. ⌜ ((k : ℕ) → getD r k 0 ≤ 4000000000) ⌝ }
 {
     let rows = joint.face.rows as usize;
     let whole = rows - 1;
@@ -201,7 +220,14 @@ fn least(a: u64, b: u64) -> u64
 }
 
 // The whole result of a joint that isn't refused.
-fn result_of(joint: Joint, spacing: Spacing, steel: SteelStrengths, bolt: BoltStrengths, check: CompressionCheck, cap: u64) -> Outcome
+fn result_of(
+    joint: Joint,
+    spacing: Spacing,
+    steel: SteelStrengths,
+    bolt: BoltStrengths,
+    check: CompressionCheck,
+    cap: u64,
+) -> Outcome
     requires { ⌜ Admissible joint ⌝ }
     requires { ⌜ Measured joint spacing steel (bolt .pair) ⌝ }
     requires { ⌜ (bolt ≡ boltStrengths (joint .bolts)) × (check ≡ governingOf joint) × (cap ≡ capOf joint) ⌝ }
@@ -224,7 +250,13 @@ fn result_of(joint: Joint, spacing: Spacing, steel: SteelStrengths, bolt: BoltSt
 }
 
 // The four verdicts on a joint's forces.
-fn judge(joint: Joint, steel: SteelStrengths, bolt: BoltStrengths, forces: [u64; 8], tally: Tally) -> Verdicts
+fn judge(
+    joint: Joint,
+    steel: SteelStrengths,
+    bolt: BoltStrengths,
+    forces: [u64; 8],
+    tally: Tally,
+) -> Verdicts
     requires { ⌜ InRange joint ⌝ }
     requires { ⌜ (steel ≡ steelOf joint) × (bolt ≡ boltStrengths (joint .bolts)) ⌝ }
     requires { ⌜ (forces ≡ eightPlaces (forcesOf joint)) × (tally ≡ tallyOf (leversOf joint) (forcesOf joint)) ⌝ }
@@ -247,7 +279,12 @@ fn judge(joint: Joint, steel: SteelStrengths, bolt: BoltStrengths, forces: [u64;
             idle,
             face.loads.shear,
         ),
-        flange_weld: verdicts::flange_weld(face, steel.beam, weld, verdicts::top_rows(face.extended, forces)),
+        flange_weld: verdicts::flange_weld(
+            face,
+            steel.beam,
+            weld,
+            verdicts::top_rows(face.extended, forces),
+        ),
         web_weld: verdicts::web_weld(face, weld),
     }
 }

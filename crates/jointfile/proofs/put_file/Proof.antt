@@ -5,9 +5,9 @@ use mathlib.Core.Path.{ap₂, _∙_}
 use native.Mathlib.Omega.{arith}
 use lib.ListN.{length-append}
 use denote.Ref.{now}
-use Rattle.jointfile.specs.Write.{storedAll}
-use Rattle.jointfile.proofs.Sizes.{storedAll-short}
-use Rattle.jointfile.proofs.Puts.{placed-short, placed-parts}
+use Rattle.numbers.specs.Run.{storedAll}
+use Rattle.numbers.proofs.Sizes.{storedAll-short}
+use Rattle.jointfile.proofs.Placed.{placed-short, placed-parts}
 use borrow.Author.Needs.{needs}
 use Rattle.jointfile.proofs.put_file.Statement.{statement}
 use Rattle.jointfile.proofs.put_file.Tie as tie

@@ -1,6 +1,7 @@
--- `read` meets its contract: field 1 is refused, is no row count, or is followed by what `read_others` reads. Assumes nothing.
+-- `read` meets its contract: field 1 is refused, is no row count, or is followed by what `read_others` reads.
+-- Assumes nothing.
 use mathlib.Core.Path.{sym, ap, _∙_}
-use Rattle.jointfile.specs.Number.{refusalNumber}
+use Rattle.numbers.specs.Number.{refusalNumber}
 use Rattle.jointfile.specs.File.{answer}
 use Rattle.jointfile.proofs.Answers.{row-count-most, first-refused, rows-refused, rows-taken}
 use borrow.Author.Needs.{needs}

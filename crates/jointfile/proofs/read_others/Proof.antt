@@ -1,4 +1,5 @@
--- `read_others` meets its contract: each return is a case of the definition, told by the two runs of numbers. Assumes nothing.
+-- `read_others` meets its contract: each return is a case of the definition, told by the two runs of numbers.
+-- Assumes nothing.
 use Prim.Native.Nat.{ℕ}
 use mathlib.Core.Path.{sym, ap, ap₂, _∙_}
 use mathlib.Core.List.{List, _∷_, append-nil}
@@ -6,8 +7,9 @@ use native.Mathlib.Omega.{arith}
 use lib.Seq.{length-take-le}
 use lib.ListN.{replicate}
 use denote.Ref.{now}
-use Rattle.jointfile.specs.Fields.{jointOf}
-use Rattle.jointfile.specs.File.{answer, runRefusal, RunRead}
+use Rattle.fields.specs.Fields.{jointOf}
+use Rattle.numbers.specs.Run.{runRefusal, RunRead}
+use Rattle.jointfile.specs.File.{answer}
 use Rattle.jointfile.proofs.Answers.{levers-eight, others-refused, levers-refused, levers-got, answer-got}
 use borrow.Author.Needs.{needs}
 use Rattle.jointfile.proofs.read_others.Statement.{statement}
@@ -54,9 +56,7 @@ slice-aggregate-numbers-at : tie.Need-slice-aggregate-numbers-at
 slice-aggregate-numbers-at c = sym (length-take-le _ _ (omega arith))
 
 numbers-at-requires-2 : tie.Need-numbers-at-requires-2
-numbers-at-requires-2 c κs =
-    let run = c .before .before .before .before .before in
-    (rw (c .before .before .others .given .1) at (run .numbers-at .ensures)) .within
+numbers-at-requires-2 c κs = search needs
 
 enum-known-last : tie.Need-enum-known-last
 enum-known-last c = search needs
@@ -101,7 +101,7 @@ returns-3 c =
     let count = levers .numbers-at2 .kept .1 .1 .0 ∙ length-take-le {A = ℕ} rows (replicate 8 0) few in
     let padded = levers-eight rows (levers .numbers-at2 .last .1 .1 .0) count in
     let joint = c .joint-of .ensures ∙ ap₂ (λ (xs ys : List ℕ). jointOf (rows ∷ xs) ys) (append-nil (others .numbers-at .last .1 .1 .0)) padded in
-    rw joint (sym (ap (answer _) (levers-got _ read run) ∙ answer-got _ _ _ (run .within)))
+    rw joint (sym (ap (answer _) (levers-got _ read run) ∙ answer-got _ _ _ (run .within (read .within (others .before .before .before .pre .1)))))
 
 pub read-others-spec : {M : Type 1} → statement M
 read-others-spec =

@@ -1,4 +1,5 @@
--- `rest` meets its contract: the place that `read` answers lies in the bytes, and what follows it is what is left. Assumes nothing.
+-- `rest` meets its contract: the place that `read` answers lies in the bytes, and what follows it is what is left.
+-- Assumes nothing.
 use Prim.Native.Nat.{_-_, _≤_}
 use borrow.Author.Needs.{needs}
 use native.Mathlib.Omega.{arith}

@@ -1,4 +1,5 @@
--- `write` meets its contract: the row count is refused, or the fields, the rows and the levers are written. Assumes nothing.
+-- `write` meets its contract: the row count is refused, or the fields, the rows and the levers are written.
+-- Assumes nothing.
 use mathlib.Core.Path.{sym, ap, _∙_}
 use mathlib.Core.List.{List}
 use Prim.Native.Nat.{ℕ}

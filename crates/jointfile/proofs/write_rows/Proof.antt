@@ -5,7 +5,7 @@ use mathlib.Core.Path.{_≡_, sym, ap, _∙_}
 use native.Mathlib.Omega.{arith}
 use lib.ListN.{drop, length-take, length-drop}
 use lib.Seq.{take-all, length-take-le}
-use Rattle.jointfile.specs.Write.{allZero}
+use Rattle.numbers.specs.Run.{allZero}
 use Rattle.jointfile.proofs.Answers.{writing-spare, writing-file}
 use borrow.Author.Needs.{needs}
 use Rattle.jointfile.proofs.write_rows.Statement.{statement}

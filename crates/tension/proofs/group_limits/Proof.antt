@@ -26,6 +26,7 @@ returns c =
     let j = s .args .joint in
     let filled = c .fill-limits .ensures in
     record {
+      size = filled .size;
       agrees = λ row last h inside.
           filled .agrees row last h inside
           ∙ ap (λ d. limitBy d row (rowsIn row last) (rise (j .face) row last)) (c .before .before .before .before .dimensions-of .ensures)

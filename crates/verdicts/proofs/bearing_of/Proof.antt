@@ -25,8 +25,7 @@ least-requires-2 c κs = search needs
 pair-bearing-requires : tie.Need-pair-bearing-requires
 pair-bearing-requires c κs =
     let s = c .before .before .before .before in
-    let steel = steel-bearing-range (s .args .plate .grade) (s .pre .2 .grade) in
-    (
+    let steel = steel-bearing-range (s .args .plate .grade) (s .pre .2 .grade) in (
       diameter-range (s .args .bolts) (s .pre .0),
       loosen (0 to 500) (s .pre .2 .thickness) tt,
       record { low = zero-le; high = omega (arith, c .before .before .least .ensures, c .before .before .before .steel-bearing .ensures, steel .high) },
@@ -35,8 +34,7 @@ pair-bearing-requires c κs =
 pair-bearing-requires-2 : tie.Need-pair-bearing-requires-2
 pair-bearing-requires-2 c κs =
     let s = c .before .before .before .before .before in
-    let steel = steel-bearing-range (s .args .column .grade) (s .pre .1 .grade) in
-    (
+    let steel = steel-bearing-range (s .args .column .grade) (s .pre .1 .grade) in (
       diameter-range (s .args .bolts) (s .pre .0),
       loosen (0 to 500) (s .pre .1 .flange) tt,
       record { low = zero-le; high = omega (arith, c .before .least2 .ensures, c .before .before .steel-bearing2 .ensures, steel .high) },
@@ -49,10 +47,16 @@ returns : tie.Need-returns
 unfolding bearing
 returns c =
     let s = c .before .before .before .before .before .before .before in
-    rw
-    (c .least3 .ensures, c .before .pair-bearing2 .ensures, c .before .before .pair-bearing .ensures, c .before .before .before .least2 .ensures,
-      c .before .before .before .before .steel-bearing2 .ensures, c .before .before .before .before .before .least .ensures,
-      c .before .before .before .before .before .before .steel-bearing .ensures, s .pre .3)
+    rw (
+      c .least3 .ensures,
+      c .before .pair-bearing2 .ensures,
+      c .before .before .pair-bearing .ensures,
+      c .before .before .before .least2 .ensures,
+      c .before .before .before .before .steel-bearing2 .ensures,
+      c .before .before .before .before .before .least .ensures,
+      c .before .before .before .before .before .before .steel-bearing .ensures,
+      s .pre .3,
+    )
 
 pub bearing-of-spec : {M : Type 1} → statement M
 bearing-of-spec =

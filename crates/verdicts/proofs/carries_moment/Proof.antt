@@ -8,7 +8,8 @@ use mir.Syntax.{w32}
 use mir.Val.{toZ, ofZ}
 use Rattle.joint.specs.Axial.{axialForce}
 use Rattle.joint.specs.declared.AxialForce.the-variants.{Compression, Tension}
-use Rattle.verdicts.proofs.Signs.{compressed, pulled, size-of-compression, size-of-tension}
+use Rattle.joint.proofs.Axial.{size-of-compression, size-of-tension}
+use Rattle.verdicts.proofs.Signs.{compressed, pulled}
 use borrow.Author.Needs.{needs}
 use Rattle.verdicts.proofs.carries_moment.Statement.{statement}
 use Rattle.verdicts.proofs.carries_moment.Tie as tie

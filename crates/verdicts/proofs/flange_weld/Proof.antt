@@ -31,8 +31,7 @@ least-requires c κs = search needs
 
 weld-capacity-requires : tie.Need-weld-capacity-requires
 weld-capacity-requires c κs =
-    let s = c .before .before .before .before .before in
-    (
+    let s = c .before .before .before .before .before in (
       loosen (0 to 250) (s .pre .0 .welds .flange) tt,
       loosen (0 to 15000) (s .pre .0 .beam .width) tt,
       rw (s .pre .2) (weld-range (s .args .face .beam .grade) (s .args .face .plate .grade)),

@@ -81,9 +81,11 @@ returns : tie.Need-returns Inv-loop μ-loop
 returns c =
     let s = c .before .before in
     let l = c .before .loop in
-    let all : l .row ≡ s .args .rows = omega arith in
-    (λ i. record { sum = l .inv .1 .sums i; moment = l .inv .1 .moments i; pulling = l .inv .1 .pulls i })
-    ∙ (λ i. tallyOf (take (all i) (s .args .t2)) (take (all i) (s .args .t3)))
+    let all : l .row ≡ s .args .rows = omega arith in (
+      (λ i. record { sum = l .inv .1 .sums i; moment = l .inv .1 .moments i; pulling = l .inv .1 .pulls i })
+          ∙ (λ i. tallyOf (take (all i) (s .args .t2)) (take (all i) (s .args .t3))),
+      omega (arith, l .inv .1 .moment-le, s .pre .0),
+    )
 
 pub tally-forces-spec : {M : Type 1} → statement M
 tally-forces-spec =

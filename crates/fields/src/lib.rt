@@ -1,0 +1,152 @@
+// A joint's fields 1 to 29 in file order: the joint that has them, and those of a joint. Field k of document 01 stands at place k - 1.
+use joint::Beam;
+use joint::Bolts;
+use joint::Column;
+use joint::Face;
+use joint::Joint;
+use joint::Layout;
+use joint::Loads;
+use joint::Plate;
+use joint::Welds;
+ghost use mathlib.Core.Path.{_≡_};
+ghost use Rattle.fields.specs.Fields.{axialOf, storedAxial, columnOf, beamOf, loadsOf, faceOf, jointOf, fieldsOf};
+
+// The axial force that a number of the file stands for.
+fn axial_of(x: u32) -> i32
+    ensures { λ r. ⌜ r ≡ axialOf x ⌝ }
+{
+    let half = (x / 2) as i32;
+    if x % 2 == 0 { half } else { -1 - half }
+}
+
+// The number that an axial force is stored as. -1 - axial is never negative here, and can't wrap.
+fn stored_axial(axial: i32) -> u32
+    ensures { λ r. ⌜ r ≡ storedAxial axial ⌝ }
+{
+    if axial < 0 {
+        2 * ((-1 - axial) as u32) + 1
+    } else {
+        2 * (axial as u32)
+    }
+}
+
+fn column_of(fields: [u32; 29]) -> Column
+    ensures { λ r. ⌜ r ≡ columnOf fields ⌝ }
+{
+    Column {
+        grade: fields[4],
+        depth: fields[7],
+        width: fields[8],
+        flange: fields[9],
+        web: fields[10],
+        root: fields[11],
+        clear: fields[12],
+    }
+}
+
+fn beam_of(fields: [u32; 29]) -> Beam
+    ensures { λ r. ⌜ r ≡ beamOf fields ⌝ }
+{
+    Beam {
+        grade: fields[5],
+        depth: fields[13],
+        width: fields[14],
+        flange: fields[15],
+        web: fields[16],
+    }
+}
+
+fn loads_of(fields: [u32; 29]) -> Loads
+    ensures { λ r. ⌜ r ≡ loadsOf fields ⌝ }
+{
+    Loads {
+        axial: axial_of(fields[26]),
+        shear: fields[27],
+        moment: fields[28],
+    }
+}
+
+fn face_of(fields: [u32; 29], levers: [u32; 8]) -> Face
+    ensures { λ r. ⌜ r ≡ faceOf fields levers ⌝ }
+{
+    let plate = Plate {
+        grade: fields[6],
+        width: fields[17],
+        thickness: fields[18],
+    };
+    let layout = Layout {
+        gauge: fields[19],
+        edge: fields[20],
+        alpha: fields[21],
+    };
+    let welds = Welds {
+        flange: fields[22],
+        web: fields[23],
+        length: fields[24],
+    };
+    Face {
+        rows: fields[0],
+        extended: fields[1],
+        beam: beam_of(fields),
+        plate,
+        layout,
+        welds,
+        shear_rows: fields[25],
+        loads: loads_of(fields),
+        levers,
+    }
+}
+
+// The joint that has these fields 1 to 29 and these levers.
+pub fn joint_of(fields: [u32; 29], levers: [u32; 8]) -> Joint
+    ensures { λ r. ⌜ r ≡ jointOf fields levers ⌝ }
+{
+    let bolts = Bolts {
+        class: fields[2],
+        diameter: fields[3],
+    };
+    Joint {
+        column: column_of(fields),
+        bolts,
+        face: face_of(fields, levers),
+    }
+}
+
+// The fields 1 to 29 of a joint.
+pub fn fields_of(joint: Joint) -> [u32; 29]
+    ensures { λ r. ⌜ r ≡ fieldsOf joint ⌝ }
+{
+    let loads = joint.face.loads;
+    let axial = stored_axial(loads.axial);
+    [
+        joint.face.rows,
+        joint.face.extended,
+        joint.bolts.class,
+        joint.bolts.diameter,
+        joint.column.grade,
+        joint.face.beam.grade,
+        joint.face.plate.grade,
+        joint.column.depth,
+        joint.column.width,
+        joint.column.flange,
+        joint.column.web,
+        joint.column.root,
+        joint.column.clear,
+        joint.face.beam.depth,
+        joint.face.beam.width,
+        joint.face.beam.flange,
+        joint.face.beam.web,
+        joint.face.plate.width,
+        joint.face.plate.thickness,
+        joint.face.layout.gauge,
+        joint.face.layout.edge,
+        joint.face.layout.alpha,
+        joint.face.welds.flange,
+        joint.face.welds.web,
+        joint.face.welds.length,
+        joint.face.shear_rows,
+        axial,
+        loads.shear,
+        loads.moment,
+    ]
+}

@@ -1,0 +1,9 @@
+-- The laws of numbers and of runs. `Codec` and `RunCodec` have their round trips, `Refusals` what a refusal's number is; the others carry
+-- the loops of the code to the definitions. They assume nothing.
+pub mod Groups
+pub mod Codec
+pub mod Sizes
+pub mod Runs
+pub mod Puts
+pub mod RunCodec
+pub mod Refusals

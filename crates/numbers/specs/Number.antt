@@ -1,0 +1,63 @@
+-- Numbers of a joint file (document 01, Read, on numbers and on refusals 1 and 2): the stored form of a number, and what reading one
+-- gives. Both go group by group from the lowest. Assumes nothing.
+use Prim.Native.Nat.{ℕ, zero, suc, _+_, _-_, _*_, _/_, _%_, _≤_, _<_}
+use mathlib.Core.Path.{_≡_}
+use mathlib.Core.List.{List, [], _∷_}
+use mathlib.Core.Bool.{cond, _&&_}
+use lib.Dec.{leb, ltb, eqb}
+use lib.ListN.{length, getD, drop}
+use Rattle.numbers.specs.Outcome.{Outcome, got, refused}
+use Rattle.numbers.specs.declared.number.Number.{Number}
+use Rattle.numbers.specs.declared.number.Number.the-variants.{Value, Refused}
+
+-- The seven-bit groups of a number, the lowest first, 128 added to each that more follow; at most so many.
+unfoldable pub groups : ℕ → ℕ → List ℕ
+groups zero x = []
+groups (suc most) x = cond (ltb x 128) (x ∷ []) ((128 + x % 128) ∷ groups most (x / 128))
+
+-- The stored form of a number: a field has 32 bits, and five groups hold 35.
+abbrev pub stored : ℕ → List ℕ
+stored x = groups 5 x
+
+-- The outcome of a number, where that of its groups above the lowest is given.
+abbrev pub above : ℕ → ℕ → Outcome ℕ → Outcome ℕ
+above scale low (got x left) = got (low + scale * x) left
+above scale low (refused r) = refused r
+
+-- Reading a number, of which `before` groups are read. 1 where the bytes end. 2 there and then at a fifth byte above 15, so that a number
+-- never passes 4294967295; any other is judged at its last byte, and is 2 where its highest group is 0 and not the only one, since
+-- then a shorter form has the same value.
+unfoldable pub readGroups : ℕ → List ℕ → Outcome ℕ
+readGroups before [] = refused 1
+readGroups before (byte ∷ left) =
+    cond (leb 4 before && ltb 15 byte) (refused 2)
+    (cond (ltb byte 128)
+    (cond (ltb 0 before && eqb byte 0) (refused 2) (got byte left))
+    (above 128 (byte - 128) (readGroups (suc before) left)))
+
+abbrev pub readNumber : List ℕ → Outcome ℕ
+readNumber bytes = readGroups 0 bytes
+
+-- What each case of the enum `Number` says of the bytes: the value with the bytes from the next place on, or document 01's number.
+abbrev pub numberTold : List ℕ → Number → Outcome ℕ
+numberTold bytes (Value x next) = got x (drop next bytes)
+numberTold bytes (Refused r) = refused r
+
+-- the next place, where there is one
+abbrev pub nextPlace : Number → ℕ
+nextPlace (Value x next) = next
+nextPlace (Refused r) = 0
+
+-- document 01's number of a refusal, and 0 of a number
+abbrev pub refusalNumber : Number → ℕ
+refusalNumber (Value x next) = 0
+refusalNumber (Refused r) = r
+
+-- The answer to reading a number at a place: it says what the definition gives there, and its next place lies in the bytes.
+pub record NumberRead (bytes : List ℕ) (from : ℕ) (answer : Number) : Type 0 where
+  pub told : numberTold bytes answer ≡ readNumber (drop from bytes)
+  pub within : nextPlace answer ≤ length bytes
+
+-- a list of bytes
+abbrev pub Bytes : List ℕ → Type 0
+Bytes bytes = (k : ℕ) → getD bytes k 0 < 256

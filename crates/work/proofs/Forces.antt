@@ -1,0 +1,87 @@
+-- The limits of a joint's groups with the cap stored on group 1 to n: they agree with the limits that the cap has joined, so they
+-- share alike. Group 1 to n has the n-th place, and no other group has it. Assumes nothing.
+use mathlib.Core.Path.{_≡_, refl, sym, ap, ap₂, _∙_}
+use mathlib.Core.Bool.{Bool, true, false, cond, _&&_}
+use Prim.Native.Nat.{ℕ, zero, suc, _+_, _-_, _≤_, _<_, min}
+use native.Mathlib.Decide.{decLe}
+use native.Mathlib.Omega.{arith}
+use mathlib.Core.List.{List}
+use lib.ListN.{length, getD, set, take, replicate, length-set}
+use lib.Seq.{getD-set-same, getD-set-other, take-at}
+use lib.Dec.{eqb}
+use borrow.Author.Tests.{eqb-true, eqb-false}
+use Rattle.sharing.specs.Groups.{Table, groupsAbove, listed, joined}
+use Rattle.sharing.specs.Sharing.{shared}
+use Rattle.sharing.proofs.Places.{group-count-le, one-group-a-place}
+use Rattle.sharing.proofs.Agreement.{shared-agrees}
+use Rattle.sharing.proofs.Theorems.{best}
+use Rattle.allocation.specs.Allocation.{eightPlaces}
+use Rattle.allocation.specs.Steps.{Shareable}
+use Rattle.allocation.proofs.Rows.{force-le-most}
+use Rattle.tension.specs.Admissible.{Filled}
+
+-- the places of the rows are the forces
+pub rows-kept : (n : ℕ) (limit : Table) → take n (eightPlaces (shared limit n)) ≡ shared limit n
+unfolding eightPlaces
+rows-kept n limit =
+    take-at (shared limit n) (replicate (8 - length (shared limit n)) 0) n (best limit n .competes .rows)
+
+module _ (n cap : ℕ) (limit : Table) (table : List ℕ) (filled : Filled n limit table) (some : 1 ≤ n) (few : n ≤ 8)
+    (stored : ℕ) (lower : stored ≡ min (getD table (n - 1) 0) cap) where
+  -- the place of group 1 to n
+  whole : groupsAbove n 0 + ((n - 1) - 0) ≡ n - 1
+  unfolding groupsAbove
+  whole = omega arith
+
+  inside : n - 1 < length table
+  inside = omega (arith, filled .size)
+
+  elsewhere : (i j : ℕ) → i ≤ j → j < n → ((i ≡ 0) × (suc j ≡ n) → ⊥) → groupsAbove n i + (j - i) ≡ n - 1 → ⊥
+  elsewhere i j h under other e =
+      let same = one-group-a-place n i j 0 (n - 1) h under (omega arith) (omega arith) (e ∙ sym whole) in
+      other (same .0, omega (arith, same .1))
+
+  agrees : (i j : ℕ) → i ≤ j → j < n → listed n (set table (n - 1) stored) i j ≡ joined limit n cap i j
+  unfolding listed joined
+  agrees i j h under = go (eqb i 0) (eqb (suc j) n) refl refl
+    where
+      other : ((i ≡ 0) × (suc j ≡ n) → ⊥) → getD (set table (n - 1) stored) (groupsAbove n i + (j - i)) 0 ≡ limit i j
+      other no-whole =
+          getD-set-other table (n - 1) (groupsAbove n i + (j - i)) stored 0 (elsewhere i j h under no-whole) ∙ filled .agrees i j h under
+
+      go : (top last : Bool) → eqb i 0 ≡ top → eqb (suc j) n ≡ last
+          → getD (set table (n - 1) stored) (groupsAbove n i + (j - i)) 0 ≡ cond (top && last) (min (limit i j) cap) (limit i j)
+      go true true et el =
+          let top = eqb-true i 0 et in
+          let last = eqb-true (suc j) n el in
+          let row : j ≡ n - 1 = omega arith in
+          let place : groupsAbove n i + (j - i) ≡ n - 1 = ap₂ (λ a b. groupsAbove n a + (b - a)) top row ∙ whole in
+          ap (λ k. getD (set table (n - 1) stored) k 0) place
+          ∙ getD-set-same table (n - 1) stored 0 inside
+          ∙ lower
+          ∙ ap (λ l. min l cap) (ap (λ k. getD table k 0) (sym place) ∙ filled .agrees i j h under)
+      go true false et el = other (λ w. eqb-false (suc j) n el (w .1))
+      go false last et el = other (λ w. eqb-false i 0 et (w .0))
+
+  pub forces-agree : shared (listed n (set table (n - 1) stored)) n ≡ shared (joined limit n cap) n
+  forces-agree = shared-agrees _ _ n agrees
+
+  bounded : (k : ℕ) → getD (set table (n - 1) stored) k 0 ≤ 4000000000
+  bounded k =
+      elim (decLe k (n - 1)) [
+        | yes p ↦ at-most (decLe (n - 1) k) p
+        | no p ↦ rw (getD-set-other table (n - 1) k stored 0 (omega arith)) (filled .bounded k)
+      ]
+    where
+      at-most : Dec (n - 1 ≤ k) → k ≤ n - 1 → getD (set table (n - 1) stored) k 0 ≤ 4000000000
+      at-most (yes q) p =
+          let same : k ≡ n - 1 = omega arith in
+          rw (same, getD-set-same table (n - 1) stored 0 inside) (omega (arith, lower, filled .bounded (n - 1)))
+      at-most (no q) p = rw (getD-set-other table (n - 1) k stored 0 (omega arith)) (filled .bounded k)
+
+  pub shareable : Shareable n (set table (n - 1) stored)
+  shareable =
+      record { rows = few; enough = omega (arith, length-set table (n - 1) stored, filled .size, group-count-le n few); bounded = λ k h. bounded k }
+
+  pub force-small : (k : ℕ) → getD (eightPlaces (shared (listed n (set table (n - 1) stored)) n)) k 0 ≤ 4000000000
+  force-small = force-le-most n (set table (n - 1) stored) shareable

@@ -1,0 +1,67 @@
+-- `row_forces` meets its contract: the cap is stored on group 1 to n, and the table shares alike (the laws of `Forces`). Assumes nothing.
+use mathlib.Core.Path.{_≡_, refl, sym, ap, _∙_}
+use native.Mathlib.Omega.{arith}
+use Rattle.allocation.specs.Allocation.{eightPlaces}
+use Rattle.work.proofs.Forces.{forces-agree, shareable, force-small}
+use borrow.Author.Needs.{needs}
+use Rattle.work.proofs.row_forces.Statement.{statement}
+use Rattle.work.proofs.row_forces.Tie as tie
+
+cast-rows : tie.Need-cast-rows
+cast-rows c = search needs
+
+sub-whole : tie.Need-sub-whole
+sub-whole c = search needs
+
+group-limits-requires : tie.Need-group-limits-requires
+group-limits-requires c κs = search needs
+
+mul-least : tie.Need-mul-least
+mul-least c = search needs
+
+array-read-least : tie.Need-array-read-least
+array-read-least c = search needs
+
+least-requires : tie.Need-least-requires
+least-requires c κs = search needs
+
+mul-limits : tie.Need-mul-limits
+mul-limits c = search needs
+
+array-write-limits : tie.Need-array-write-limits
+array-write-limits c = search needs
+
+slice-aggregate-share : tie.Need-slice-aggregate-share
+slice-aggregate-share c = search needs
+
+share-requires : tie.Need-share-requires
+share-requires c κs =
+    let s = c .before .before .before .before in
+    let rows = s .pre .0 .in-range .face .rows in
+    shareable _ (s .args .cap) _ _ (c .before .before .group-limits .ensures) (rows .low) (rows .high) _ (c .before .least .ensures)
+
+returns : tie.Need-returns
+returns c =
+    let s = c .before .before .before .before .before in
+    let rows = s .pre .0 .in-range .face .rows in
+    let filled = c .before .before .before .group-limits .ensures in
+    let lower = c .before .before .least .ensures in (
+      c .share .ensures ∙ ap eightPlaces (forces-agree _ (s .args .cap) _ _ filled (rows .low) (rows .high) _ lower),
+      (λ k. rw (c .share .ensures) (force-small _ (s .args .cap) _ _ filled (rows .low) (rows .high) _ lower k)),
+    )
+
+pub row-forces-spec : {M : Type 1} → statement M
+row-forces-spec =
+    tie.close
+    (tie.spec
+    cast-rows
+    sub-whole
+    group-limits-requires
+    mul-least
+    array-read-least
+    least-requires
+    mul-limits
+    array-write-limits
+    slice-aggregate-share
+    share-requires
+    returns)
