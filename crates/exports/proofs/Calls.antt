@@ -9,15 +9,18 @@ use lib.ListN.{length, drop}
 use Rattle.joint.specs.declared.Joint.{Joint}
 use Rattle.allocation.specs.declared.Allocation.{Allocation}
 use Rattle.allocation.specs.Allocation.{allocated}
-use Rattle.jointfile.specs.Outcome.{Outcome, got, refused}
-use Rattle.jointfile.specs.Number.{Bytes}
+use Rattle.numbers.specs.Outcome.{Outcome as Reads, got, refused}
+use Rattle.numbers.specs.Number.{Bytes}
 use Rattle.jointfile.specs.File.{readJoint, answer, reading, leftOf, restOf}
 use Rattle.jointfile.specs.Write.{writing, writtenTold}
 use Rattle.jointfile.specs.declared.Reading.{Reading}
 use Rattle.jointfile.specs.declared.Written.{Written}
 use Rattle.jointfile.proofs.Places.{next-left, left-shorter}
+use Rattle.outcome.specs.declared.Outcome.{Outcome}
+use Rattle.work.specs.Work.{worked}
 use Rattle.exports.specs.Words.{jointOfWords, wordsOf, front}
-use Rattle.exports.specs.Calls.{allocateTold, allocateAnswer, allocating, readAnswer, readingInto, writeAnswer, writingInto}
+use Rattle.exports.specs.Outcomes.{outcomeWords}
+use Rattle.exports.specs.Calls.{allocateTold, allocateAnswer, allocating, readAnswer, readingInto, writeAnswer, writingInto, workTold, workAnswer, workingInto}
 
 -- ---- Allocate
 
@@ -62,14 +65,14 @@ read-answer bytes fields next {answer} room is put =
 rest-next : (bytes : List ℕ) → length bytes - length (restOf bytes) ≡ reading bytes .next
 rest-next bytes = go (readJoint bytes)
   where
-    go : (outcome : Outcome Joint) → length bytes - length (leftOf outcome) ≡ answer (length bytes) outcome .next
+    go : (outcome : Reads Joint) → length bytes - length (leftOf outcome) ≡ answer (length bytes) outcome .next
     go (got joint left) = refl
     go (refused r) = omega arith
 
 pub rest-within : (bytes : List ℕ) → Bytes bytes → length (restOf bytes) ≤ length bytes
 rest-within bytes all = go (readJoint bytes) refl
   where
-    go : (outcome : Outcome Joint) → readJoint bytes ≡ outcome → length (leftOf outcome) ≤ length bytes
+    go : (outcome : Reads Joint) → readJoint bytes ≡ outcome → length (leftOf outcome) ≤ length bytes
     go (got joint left) e = omega (arith, left-shorter bytes joint left all e)
     go (refused r) e = omega arith
 
@@ -88,3 +91,26 @@ pub write-taken : (fields buffer : List ℕ) (size : ℕ) → 37 ≤ length fiel
 unfolding writingInto
 write-taken fields buffer size room {written} {told} exit is e =
     simp (le-leb 37 (length fields) room) (ap (λ (w : Written). writeAnswer (writtenTold w exit)) (sym is) ∙ ap writeAnswer e)
+
+-- ---- Work
+
+pub work-few : (fields words : List ℕ) → length fields < 37 → workTold 100 words ≡ workingInto fields words
+unfolding workingInto
+work-few fields words short = simp (lt-leb 37 (length fields) short)
+
+pub work-short : (fields words : List ℕ) → 37 ≤ length fields → length words < 19 → workTold 100 words ≡ workingInto fields words
+unfolding workingInto
+work-short fields words room short = simp (le-leb 37 (length fields) room, lt-leb 19 (length words) short)
+
+work-taken : (fields words : List ℕ) → 37 ≤ length fields → 19 ≤ length words
+    → workAnswer (worked (jointOfWords fields)) words ≡ workingInto fields words
+unfolding workingInto
+work-taken fields words room place = simp (le-leb 37 (length fields) room, le-leb 19 (length words) place)
+
+pub work-answer : (fields words : List ℕ) {joint : Joint} {outcome : Outcome} {exit : List ℕ} → 37 ≤ length fields → 19 ≤ length words
+    → joint ≡ jointOfWords fields → outcome ≡ worked joint → exit ≡ front (outcomeWords outcome) words
+    → workTold (outcome .refusal) exit ≡ workingInto fields words
+work-answer fields words {joint} {outcome} room place same is put =
+    ap (workTold (outcome .refusal)) put
+    ∙ ap (λ (o : Outcome). workAnswer o words) (is ∙ ap worked same)
+    ∙ work-taken fields words room place

@@ -10,7 +10,10 @@ use Rattle.allocation.specs.declared.Allocation.{Allocation}
 use Rattle.jointfile.specs.File.{reading}
 use Rattle.jointfile.specs.Write.{Writing, writing}
 use Rattle.jointfile.specs.declared.Reading.{Reading}
+use Rattle.outcome.specs.declared.Outcome.{Outcome}
+use Rattle.work.specs.Work.{worked}
 use Rattle.exports.specs.Words.{jointOfWords, wordsOf, front}
+use Rattle.exports.specs.Outcomes.{outcomeWords}
 
 -- ---- Allocate
 
@@ -57,3 +60,21 @@ unfoldable pub writingInto : List ℕ → List ℕ → ℕ → WriteTold
 writingInto fields buffer size =
     cond (leb 37 (length fields)) (writeAnswer (writing (jointOfWords fields) buffer))
     (record { number = 100; buffer = buffer; length = size })
+
+-- ---- Work
+
+pub record WorkTold : Type 0 where
+  pub number : ℕ
+  pub outcome : List ℕ
+
+abbrev pub workTold : ℕ → List ℕ → WorkTold
+workTold number outcome = record { number = number; outcome = outcome }
+
+abbrev pub workAnswer : Outcome → List ℕ → WorkTold
+workAnswer outcome words = workTold (outcome .refusal) (front (outcomeWords outcome) words)
+
+unfoldable pub workingInto : List ℕ → List ℕ → WorkTold
+workingInto fields words =
+    cond (leb 37 (length fields))
+    (cond (leb 19 (length words)) (workAnswer (worked (jointOfWords fields)) words) (workTold 100 words))
+    (workTold 100 words)

@@ -5,11 +5,11 @@ use mathlib.Core.List.{List, [], _∷_, _++_}
 use mathlib.Core.Bool.{cond}
 use lib.Dec.{ltb}
 use lib.IntN.{ℤ, pos, negsuc}
-use lib.ListN.{length, drop}
+use lib.ListN.{length, drop, set}
 use Rattle.joint.specs.declared.Face.{Face}
 use Rattle.joint.specs.declared.Joint.{Joint}
 use Rattle.joint.specs.declared.Loads.{Loads}
-use Rattle.jointfile.specs.Fields.{field, columnOf, boltsOf, beamOf, plateOf, layoutOf, weldsOf}
+use Rattle.fields.specs.Fields.{field, columnOf, boltsOf, beamOf, plateOf, layoutOf, weldsOf, fieldsOf}
 
 -- N as a word: itself, or 2^32 more when negative. `negsuc n` is the integer -n - 1.
 unfoldable pub wordOfAxial : ℤ → ℕ
@@ -46,22 +46,9 @@ faceOfWords words =
 unfoldable pub jointOfWords : List ℕ → Joint
 jointOfWords words = record { column = columnOf words; bolts = boltsOf words; face = faceOfWords words }
 
--- the words before the levers
+-- the words before the levers: the fields of the file, with N as a word
 unfoldable pub headOf : Joint → List ℕ
-headOf joint =
-    let column = joint .column in
-    let bolts = joint .bolts in
-    let face = joint .face in
-    let beam = face .beam in
-    let plate = face .plate in
-    let layout = face .layout in
-    let welds = face .welds in
-    let loads = face .loads in
-    face .rows ∷ face .extended ∷ bolts .class ∷ bolts .diameter ∷ column .grade ∷ beam .grade ∷ plate .grade
-    ∷ column .depth ∷ column .width ∷ column .flange ∷ column .web ∷ column .root ∷ column .clear
-    ∷ beam .depth ∷ beam .width ∷ beam .flange ∷ beam .web ∷ plate .width ∷ plate .thickness
-    ∷ layout .gauge ∷ layout .edge ∷ layout .alpha ∷ welds .flange ∷ welds .web ∷ welds .length ∷ face .«shear_rows»
-    ∷ wordOfAxial (loads .axial) ∷ loads .shear ∷ loads .moment ∷ []
+headOf joint = set (fieldsOf joint) 26 (wordOfAxial (joint .face .loads .axial))
 
 -- the words of a joint
 abbrev pub wordsOf : Joint → List ℕ

@@ -8,7 +8,7 @@ mod words;
 ghost use mathlib.Core.Path.{_≡_};
 ghost use lib.ListN.{drop};
 ghost use Rattle.jointfile.specs.File.{restOf};
-ghost use Rattle.exports.specs.Calls.{allocateTold, allocating, ReadTold, readingInto, WriteTold, writingInto};
+ghost use Rattle.exports.specs.Calls.{allocateTold, allocating, ReadTold, readingInto, WriteTold, writingInto, workTold, workingInto};
 use jointfile::Written;
 
 // A lent slice is too short.
@@ -70,4 +70,20 @@ pub extern "C" fn jinqewan_write(fields: &[u32], buffer: &mut [u8], length: &mut
             number
         }
     }
+}
+
+// Work: the outcome goes to the first 19 places.
+#[no_mangle]
+pub extern "C" fn jinqewan_work(fields: &[u32], outcome: &mut [u64]) -> u32
+    ensures { λ r. ⌜ workTold r (now (outcome .exit)) ≡ workingInto (now (fields .entry)) (now (outcome .entry)) ⌝ }
+{
+    if fields.len() < 37 {
+        return SHORT;
+    }
+    if outcome.len() < 19 {
+        return SHORT;
+    }
+    let worked = work::work(words::joint_of(fields));
+    outcomes::put_outcome(worked, outcome);
+    worked.refusal
 }

@@ -2,7 +2,7 @@
 ghost use mathlib.Core.Path.{_≡_};
 ghost use Prim.Native.Nat.{_≤_};
 ghost use lib.ListN.{length};
-ghost use Rattle.jointfile.specs.Fields.{columnOf, boltsOf, beamOf, plateOf, layoutOf, weldsOf};
+ghost use Rattle.fields.specs.Fields.{columnOf, boltsOf, beamOf, plateOf, layoutOf, weldsOf};
 ghost use Rattle.exports.specs.Words.{axialOfWord, wordOfAxial, loadsOfWords, leversOfWords, faceOfWords, jointOfWords, headOf, wordsOf, front};
 use crate::put::put_eight_u32;
 use crate::put::put_u32;
@@ -165,43 +165,14 @@ pub fn joint_of(words: &[u32]) -> Joint
     }
 }
 
-// The words before the levers.
+// The words before the levers: the fields, with N as a word.
 fn head_of(joint: Joint) -> [u32; 29]
     ensures { λ r. ⌜ r ≡ headOf joint ⌝ }
 {
     let loads = joint.face.loads;
-    let axial = word_of(loads.axial);
-    [
-        joint.face.rows,
-        joint.face.extended,
-        joint.bolts.class,
-        joint.bolts.diameter,
-        joint.column.grade,
-        joint.face.beam.grade,
-        joint.face.plate.grade,
-        joint.column.depth,
-        joint.column.width,
-        joint.column.flange,
-        joint.column.web,
-        joint.column.root,
-        joint.column.clear,
-        joint.face.beam.depth,
-        joint.face.beam.width,
-        joint.face.beam.flange,
-        joint.face.beam.web,
-        joint.face.plate.width,
-        joint.face.plate.thickness,
-        joint.face.layout.gauge,
-        joint.face.layout.edge,
-        joint.face.layout.alpha,
-        joint.face.welds.flange,
-        joint.face.welds.web,
-        joint.face.welds.length,
-        joint.face.shear_rows,
-        axial,
-        loads.shear,
-        loads.moment,
-    ]
+    let mut head = fields::fields_of(joint);
+    head[26] = word_of(loads.axial);
+    head
 }
 
 // Puts a joint's words at the front of a slice.

@@ -1,4 +1,4 @@
-//! Rounds of two sides in turn.
+//! Rounds of several sides in turn.
 
 use std::time::Instant;
 
@@ -7,29 +7,21 @@ const ROUNDS: usize = 41;
 /// Runs in a round.
 const RUNS: usize = 20;
 
-/// Nanoseconds of one run of each side.
-pub struct Times {
-    pub proved: f64,
-    pub plain: f64,
-}
-
-/// Both sides are warmed by a round that isn't counted.
-pub fn measure(mut proved: impl FnMut(), mut plain: impl FnMut()) -> Times {
-    round(&mut proved);
-    round(&mut plain);
-    let mut proved_times = Vec::new();
-    let mut plain_times = Vec::new();
+/// Nanoseconds of one run of each side. Each is warmed by a round that isn't counted.
+pub fn measure<const SIDES: usize>(mut sides: [&mut dyn FnMut(); SIDES]) -> [f64; SIDES] {
+    for side in &mut sides {
+        round(side);
+    }
+    let mut times: [Vec<f64>; SIDES] = std::array::from_fn(|_| Vec::new());
     for _ in 0..ROUNDS {
-        proved_times.push(round(&mut proved));
-        plain_times.push(round(&mut plain));
+        for (side, times) in sides.iter_mut().zip(&mut times) {
+            times.push(round(side));
+        }
     }
-    Times {
-        proved: median(proved_times),
-        plain: median(plain_times),
-    }
+    times.map(median)
 }
 
-fn round(side: &mut impl FnMut()) -> f64 {
+fn round(side: &mut dyn FnMut()) -> f64 {
     let start = Instant::now();
     for _ in 0..RUNS {
         side();

@@ -1,7 +1,7 @@
 -- `jinqewan_rest` meets its contract: what is left is the end of the bytes, so it begins at the difference of the lengths.
 -- Assumes nothing.
 use denote.Ref.{now}
-use Rattle.jointfile.specs.Number.{Bytes}
+use Rattle.numbers.specs.Number.{Bytes}
 use Rattle.exports.proofs.Calls.{rest-within, rest-place}
 use borrow.Author.Needs.{needs}
 use Rattle.exports.proofs.jinqewan_rest.Statement.{statement}

@@ -8,7 +8,7 @@ use lib.IntN.{negsuc, _-ℤ_}
 use mir.Syntax.{w32}
 use mir.Val.{toZ}
 use mir.ValLaws.{toZ-pos, toZ-ofZ}
-use Rattle.jointfile.proofs.Axial.{minus-one-pos}
+use Rattle.fields.proofs.Axial.{minus-one-pos}
 use Rattle.exports.proofs.Axial.{axial-pos, axial-neg}
 use Rattle.exports.proofs.words.axial_of.Statement.{statement}
 use Rattle.exports.proofs.words.axial_of.Tie as tie

@@ -3,6 +3,7 @@ use mathlib.Core.Path.{_≡_, refl}
 use lib.ListN.{length}
 use denote.Ref.{now}
 use Rattle.joint.specs.declared.Joint.{Joint}
+use Rattle.fields.specs.Fields.{fieldsOf}
 use Rattle.exports.specs.Words.{headOf}
 use Rattle.exports.proofs.Copies.{put-front, put-after}
 use borrow.Author.Needs.{needs}
@@ -10,7 +11,7 @@ use Rattle.exports.proofs.words.put_joint.Statement.{statement}
 use Rattle.exports.proofs.words.put_joint.Tie as tie
 
 head-length : (joint : Joint) → length (headOf joint) ≡ 29
-unfolding headOf
+unfolding headOf fieldsOf
 head-length joint = refl
 
 head-of-requires : tie.Need-head-of-requires
