@@ -2,15 +2,17 @@
 
 use std::time::Instant;
 
-/// Rounds of each side; the median is taken.
-const ROUNDS: usize = 41;
-/// Runs in a round.
-const RUNS: usize = 20;
+/// Rounds of each side; the median is taken. A round is one run over all inputs: short, so that few are broken by other processes.
+const ROUNDS: usize = 1001;
+/// Rounds that aren't counted.
+const WARMING: usize = 100;
 
-/// Nanoseconds of one run of each side. Each is warmed by a round that isn't counted.
+/// Nanoseconds of one run of each side.
 pub fn measure<const SIDES: usize>(mut sides: [&mut dyn FnMut(); SIDES]) -> [f64; SIDES] {
-    for side in &mut sides {
-        round(side);
+    for _ in 0..WARMING {
+        for side in &mut sides {
+            round(side);
+        }
     }
     let mut times: [Vec<f64>; SIDES] = std::array::from_fn(|_| Vec::new());
     for _ in 0..ROUNDS {
@@ -23,10 +25,8 @@ pub fn measure<const SIDES: usize>(mut sides: [&mut dyn FnMut(); SIDES]) -> [f64
 
 fn round(side: &mut dyn FnMut()) -> f64 {
     let start = Instant::now();
-    for _ in 0..RUNS {
-        side();
-    }
-    start.elapsed().as_nanos() as f64 / RUNS as f64
+    side();
+    start.elapsed().as_nanos() as f64
 }
 
 fn median(mut times: Vec<f64>) -> f64 {
