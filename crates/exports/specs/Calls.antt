@@ -12,6 +12,7 @@ use Rattle.jointfile.specs.Write.{Writing, writing}
 use Rattle.jointfile.specs.declared.Reading.{Reading}
 use Rattle.outcome.specs.declared.Outcome.{Outcome}
 use Rattle.work.specs.Work.{worked}
+use Rattle.sheets.specs.Sheet.{Printing, whole, cut, printing, sheetLines}
 use Rattle.exports.specs.Words.{jointOfWords, wordsOf, front}
 use Rattle.exports.specs.Outcomes.{outcomeWords}
 
@@ -78,3 +79,18 @@ workingInto fields words =
     cond (leb 37 (length fields))
     (cond (leb 19 (length words)) (workAnswer (worked (jointOfWords fields)) words) (workTold 100 words))
     (workTold 100 words)
+
+-- ---- Sheet
+
+pub record SheetTold : Type 0 where
+  pub number : ℕ
+  pub output : List ℕ
+  pub length : ℕ
+
+-- 101: there is no room for all lines
+abbrev pub sheetAnswer : Printing → SheetTold
+sheetAnswer (whole size output) = record { number = 0; output = output; length = size }
+sheetAnswer (cut output) = record { number = 101; output = output; length = 0 }
+
+abbrev pub sheetingInto : List ℕ → List ℕ → SheetTold
+sheetingInto input output = sheetAnswer (printing (sheetLines input) output)

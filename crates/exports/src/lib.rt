@@ -1,6 +1,6 @@
 // The calls as C and Rust see them: over numbers and lent slices. A joint is 37 words of 32 bits, document 01's fields in file order
 // with spare levers; N is its two's complement. Answers are document 01's refusal numbers, 0 for none; and 100, with nothing
-// written, where a lent slice is too short to hold a joint or an answer.
+// written, where a lent slice is too short to hold a joint or an answer; of the sheet, 101 where the output has no room for all lines.
 mod outcomes;
 mod put;
 mod words;
@@ -8,11 +8,15 @@ mod words;
 ghost use mathlib.Core.Path.{_≡_};
 ghost use lib.ListN.{drop};
 ghost use Rattle.jointfile.specs.File.{restOf};
-ghost use Rattle.exports.specs.Calls.{allocateTold, allocating, ReadTold, readingInto, WriteTold, writingInto, workTold, workingInto};
+ghost use Rattle.exports.specs.Calls.{allocateTold, allocating, ReadTold, readingInto, WriteTold, writingInto, workTold, workingInto, sheetingInto};
 use jointfile::Written;
+use sheets::Printed;
 
 // A lent slice is too short.
 const SHORT: u32 = 100;
+
+// The output has no room for all lines.
+const NO_ROOM: u32 = 101;
 
 // Allocate: the forces go to the first eight places.
 #[no_mangle]
@@ -86,4 +90,23 @@ pub extern "C" fn jinqewan_work(fields: &[u32], outcome: &mut [u64]) -> u32
     let worked = work::work(words::joint_of(fields));
     outcomes::put_outcome(worked, outcome);
     worked.refusal
+}
+
+// Sheet: the lines go to the output's front and their length to `length`. Without room for all of them those that fit stand there, and
+// the length is 0.
+#[no_mangle]
+pub extern "C" fn jinqewan_sheet(input: &[u8], output: &mut [u8], length: &mut usize) -> u32
+    ensures { λ r. ⌜ record { number = r; output = now (output .exit); length = now (length .exit) } ≡ sheetingInto (now (input .entry)) (now (output .entry)) ⌝ }
+{
+    let printed = sheets::sheet(input, output);
+    match printed {
+        Printed::Length(size) => {
+            *length = size;
+            0
+        }
+        Printed::NoRoom => {
+            *length = 0;
+            NO_ROOM
+        }
+    }
 }

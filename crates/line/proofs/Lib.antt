@@ -1,0 +1,4 @@
+pub mod Numerals
+pub mod Puts
+pub mod Lines
+pub mod Checked

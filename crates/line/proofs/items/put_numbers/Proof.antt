@@ -1,0 +1,79 @@
+-- `items::put_numbers` meets its contract: the items of the numbers passed are put, and one more is joined to them. The measure is the
+-- count of numbers left. Assumes nothing.
+use Prim.Native.Nat.{_-_}
+use borrow.Author.Needs.{needs}
+use native.Mathlib.Omega.{arith}
+use denote.Ref.{now}
+use lib.ListN.{length, take, length-set}
+use Rattle.line.specs.Digits.{decimal}
+use Rattle.line.specs.Line.{spaced}
+use Rattle.numbers.specs.Run.{Put}
+use Rattle.line.proofs.Puts.{items, items-room, items-more, items-all, put-none, put-length}
+use Rattle.line.proofs.items.put_numbers.Statement.{statement}
+use Rattle.line.proofs.items.put_numbers.Tie as tie
+
+abbrev Inv-loop : tie.InvT-loop
+Inv-loop buffer₀ from numbers at₀ i₀ buffer at i = Put buffer₀ from (items decimal (take i numbers)) buffer at
+
+abbrev μ-loop : tie.MeasureT-loop
+μ-loop buffer₀ from numbers at₀ i₀ buffer at i = length numbers - i
+
+loop-holds : tie.Need-loop-holds Inv-loop μ-loop
+unfolding spaced
+loop-holds c = put-none _ _
+
+slice-write-buffer : tie.Need-slice-write-buffer Inv-loop μ-loop
+slice-write-buffer c =
+    let start = c .before .before .before .before in
+    omega (arith, items-room decimal _ _ (c .loop-test .taken) (c .before .loop .inv) (start .pre))
+
+add-put-number : tie.Need-add-put-number Inv-loop μ-loop
+add-put-number c =
+    let start = c .before .before .before .before .before in
+    omega (arith, items-room decimal _ _ (c .before .loop-test .taken) (c .before .before .loop .inv) (start .pre), put-length (c .before .before .loop .inv), start .good)
+
+mul-put-number : tie.Need-mul-put-number Inv-loop μ-loop
+mul-put-number c = search needs
+
+shared-slice-read-put-number : tie.Need-shared-slice-read-put-number Inv-loop μ-loop
+shared-slice-read-put-number c = search needs
+
+put-number-requires : tie.Need-put-number-requires Inv-loop μ-loop
+put-number-requires c κs =
+    let head = c .before .before .before in
+    simp length-set (omega (arith, items-room decimal _ _ (c .before .before .loop-test .taken) (head .loop .inv) (head .before .before .before .pre)))
+
+add-i : tie.Need-add-i Inv-loop μ-loop
+add-i c = omega arith
+
+loop-less : tie.Need-loop-less Inv-loop μ-loop
+loop-less c = omega arith
+
+loop-again : tie.Need-loop-again Inv-loop μ-loop
+loop-again c =
+    let test = c .before .before .before .before .before in
+    items-more decimal _ _ (test .loop-test .taken) (test .before .loop .inv) (c .before .before .put-number .ensures)
+
+same-length : tie.Need-same-length Inv-loop μ-loop
+same-length c = put-length (c .before .loop .inv)
+
+returns : tie.Need-returns Inv-loop μ-loop
+returns c = rw (← items-all decimal (now (c .before .before .before .before .args .numbers)) _ (c .loop-test .left)) (c .before .loop .inv)
+
+pub put-numbers-spec : {M : Type 1} → statement M
+put-numbers-spec =
+    tie.close
+    (tie.spec
+    Inv-loop
+    μ-loop
+    loop-holds
+    slice-write-buffer
+    add-put-number
+    mul-put-number
+    shared-slice-read-put-number
+    put-number-requires
+    add-i
+    loop-less
+    loop-again
+    same-length
+    returns)
