@@ -18,9 +18,11 @@ use Rattle.jointfile.specs.declared.Written.{Written}
 use Rattle.jointfile.proofs.Places.{next-left, left-shorter}
 use Rattle.outcome.specs.declared.Outcome.{Outcome}
 use Rattle.work.specs.Work.{worked}
+use Rattle.sheets.specs.Sheet.{printing, sheetLines, printedTold}
+use Rattle.sheets.specs.declared.Printed.{Printed}
 use Rattle.exports.specs.Words.{jointOfWords, wordsOf, front}
 use Rattle.exports.specs.Outcomes.{outcomeWords}
-use Rattle.exports.specs.Calls.{allocateTold, allocateAnswer, allocating, readAnswer, readingInto, writeAnswer, writingInto, workTold, workAnswer, workingInto}
+use Rattle.exports.specs.Calls.{allocateTold, allocateAnswer, allocating, readAnswer, readingInto, writeAnswer, writingInto, workTold, workAnswer, workingInto, sheetAnswer, sheetingInto}
 
 -- ---- Allocate
 
@@ -114,3 +116,9 @@ work-answer fields words {joint} {outcome} room place same is put =
     ap (workTold (outcome .refusal)) put
     ∙ ap (λ (o : Outcome). workAnswer o words) (is ∙ ap worked same)
     ∙ work-taken fields words room place
+
+-- ---- Sheet
+
+pub sheet-answer : (input output : List ℕ) {printed told : Printed} (exit : List ℕ) → printed ≡ told
+    → printedTold printed exit ≡ printing (sheetLines input) output → sheetAnswer (printedTold told exit) ≡ sheetingInto input output
+sheet-answer input output exit is e = ap (λ (p : Printed). sheetAnswer (printedTold p exit)) (sym is) ∙ ap sheetAnswer e
