@@ -18,7 +18,9 @@ enum {
     JINQEWAN_FORCES = 8,
     JINQEWAN_OUTCOME_WORDS = 19,
     JINQEWAN_LONGEST_FILE = 181,
-    JINQEWAN_SHORT = 100
+    JINQEWAN_LONGEST_INPUT = 65536,
+    JINQEWAN_SHORT = 100,
+    JINQEWAN_NO_ROOM = 101
 };
 
 /* The words of an outcome. */
@@ -52,6 +54,10 @@ uint32_t jinqewan_write(const uint32_t *fields, size_t fields_length, uint8_t *b
 
 /* The joint worked, into `outcome`, which has 19 places. */
 uint32_t jinqewan_work(const uint32_t *fields, size_t fields_length, uint64_t *outcome, size_t outcome_length);
+
+/* The sheet of joint files end to end, into `output`, and its length into `length`. Answers 0; or JINQEWAN_NO_ROOM, with the lines that
+ * fit in `output` and a length of 0. */
+uint32_t jinqewan_sheet(const uint8_t *input, size_t input_length, uint8_t *output, size_t output_length, size_t *length);
 
 #ifdef __cplusplus
 }

@@ -5,7 +5,7 @@ mod rounds;
 mod words;
 
 use proved::{FORCES, JOINT_WORDS, OUTCOME_WORDS};
-use reference::{Joint, GROUPS, LONGEST_FILE};
+use reference::{Joint, GROUPS, LONGEST_FILE, LONGEST_INPUT};
 use rounds::measure;
 use sample::{file_of, worked_joint, Random};
 use std::hint::black_box;
@@ -27,6 +27,8 @@ fn main() {
     line("work, 1 row", time_work(&mut random, 1));
     line("work, 3 rows", time_work(&mut random, 3));
     line("work, 8 rows", time_work(&mut random, 8));
+    let input = full_input(&mut random);
+    sheet_line(&input, time_sheet(&input));
 }
 
 /// Times are of a run over all inputs.
@@ -35,6 +37,15 @@ fn line(call: &str, times: [f64; 3]) {
     println!(
         "| {call} | {proved:.1} | {plain:.1} | {:.2} | {native:.1} |",
         plain / proved
+    );
+}
+
+fn sheet_line(input: &[u8], times: [f64; 2]) {
+    let [proved, plain] = times.map(|time| input.len() as f64 * 1000.0 / time);
+    println!(
+        "| sheet, {} bytes, megabytes a second | {proved:.0} | {plain:.0} | {:.2} | |",
+        input.len(),
+        times[1] / times[0]
     );
 }
 
@@ -170,6 +181,35 @@ fn time_work(random: &mut Random, rows: u32) -> [f64; 3] {
             for joint in &joints {
                 black_box(&reference::work(black_box(joint)));
             }
+        },
+    ])
+}
+
+/// Files end to end, of which the last is cut where the longest input ends.
+fn full_input(random: &mut Random) -> Vec<u8> {
+    let mut input = Vec::new();
+    while input.len() < LONGEST_INPUT {
+        let rows = random.between(1, 8);
+        input.extend(file_of(&worked_joint(random, rows)));
+    }
+    input.truncate(LONGEST_INPUT);
+    input
+}
+
+/// Into buffers that are used again: a slice, and a vector that keeps its room.
+fn time_sheet(input: &[u8]) -> [f64; 2] {
+    let mut output = vec![0; 4 * LONGEST_INPUT];
+    let mut lines = Vec::with_capacity(4 * LONGEST_INPUT);
+    let mut length = 0;
+    measure([
+        &mut || {
+            black_box(proved::sheet(black_box(input), &mut output, &mut length));
+            black_box((&output, length));
+        },
+        &mut || {
+            lines.clear();
+            reference::sheet(black_box(input), &mut lines);
+            black_box(&lines);
         },
     ])
 }

@@ -1,7 +1,7 @@
 //! One input, both answers.
 
 use crate::tally::Tally;
-use proved::{FORCES, JOINT_WORDS, OUTCOME_WORDS, SHORT};
+use proved::{FORCES, JOINT_WORDS, NO_ROOM, OUTCOME_WORDS, SHORT};
 use reference::{Check, Joint, Outcome, WorkRefusal, LONGEST_FILE, LONGEST_INPUT};
 use sample::{any_joint, Random, Table};
 use std::fmt::Debug;
@@ -245,12 +245,60 @@ pub fn compare_stream(
     compare_sheet(bytes, random, tally)
 }
 
-fn compare_sheet(
-    _bytes: &[u8],
-    _random: &mut Random,
-    _tally: &mut Tally,
-) -> Result<(), Difference> {
-    Ok(())
+/// The sheet into a buffer that mostly has room for it.
+fn compare_sheet(bytes: &[u8], random: &mut Random, tally: &mut Tally) -> Result<(), Difference> {
+    let mut lines = Vec::new();
+    reference::sheet(bytes, &mut lines);
+    count_sheet(bytes, &lines, tally);
+    let spare = random.below(20) as usize;
+    let size = if random.one_in(4) {
+        random.below(lines.len() as u64 + 1) as usize
+    } else {
+        lines.len() + spare
+    };
+    let mut output = vec![MARK_8; size];
+    let mut length = usize::MAX;
+    let answer = proved::sheet(bytes, &mut output, &mut length);
+    let mut expected = vec![MARK_8; size];
+    if size < lines.len() {
+        tally.count("sheet: no room");
+        let whole = whole_lines(&lines[..size]);
+        expected[..whole].copy_from_slice(&lines[..whole]);
+        return same(
+            "sheet",
+            &(bytes, size),
+            (answer, length, output),
+            (NO_ROOM, 0, expected),
+        );
+    }
+    expected[..lines.len()].copy_from_slice(&lines);
+    same(
+        "sheet",
+        &(bytes, size),
+        (answer, length, output),
+        (0, lines.len(), expected),
+    )
+}
+
+/// Bytes of the lines that are whole.
+fn whole_lines(lines: &[u8]) -> usize {
+    lines
+        .iter()
+        .rposition(|&byte| byte == b'\n')
+        .map_or(0, |place| place + 1)
+}
+
+fn count_sheet(bytes: &[u8], lines: &[u8], tally: &mut Tally) {
+    tally.count(if bytes.len() > LONGEST_INPUT {
+        "sheet: R 4"
+    } else if lines.is_empty() {
+        "sheet: nothing"
+    } else if lines.ends_with(b" R 1\n") || lines.ends_with(b" R 2\n") || lines.ends_with(b" R 3\n")
+    {
+        "sheet: ended by a read refusal"
+    } else {
+        "sheet: to the end of the input"
+    });
 }
 
 // ---- Slices that are too short

@@ -10,6 +10,8 @@ pub const FORCES: usize = 8;
 pub const OUTCOME_WORDS: usize = 19;
 /// A lent slice is too short; nothing is written.
 pub const SHORT: u32 = 100;
+/// The sheet's output has no room for all lines: those that fit stand there.
+pub const NO_ROOM: u32 = 101;
 
 mod c {
     extern "C" {
@@ -40,6 +42,13 @@ mod c {
             fields_length: usize,
             outcome: *mut u64,
             outcome_length: usize,
+        ) -> u32;
+        pub fn jinqewan_sheet(
+            input: *const u8,
+            input_length: usize,
+            output: *mut u8,
+            output_length: usize,
+            length: *mut usize,
         ) -> u32;
     }
 }
@@ -92,6 +101,18 @@ pub fn work(fields: &[u32], outcome: &mut [u64]) -> u32 {
             fields.len(),
             outcome.as_mut_ptr(),
             outcome.len(),
+        )
+    }
+}
+
+pub fn sheet(input: &[u8], output: &mut [u8], length: &mut usize) -> u32 {
+    unsafe {
+        c::jinqewan_sheet(
+            input.as_ptr(),
+            input.len(),
+            output.as_mut_ptr(),
+            output.len(),
+            length,
         )
     }
 }
