@@ -1,7 +1,7 @@
 // Allocate: limits of row groups become row forces (document 01, 'Sharing the force' and 'Allocate').
 // Rows count from 0 here, from 1 in document 01.
 ghost use mathlib.Core.Path.{_≡_};
-ghost use Prim.Native.Nat.{ℕ, _+_, _≤_, _<_, min};
+ghost use Prim.Native.Nat.{ℕ, _+_, _≤_, _<_};
 ghost use lib.ListN.{length, take};
 ghost use Rattle.arithmetic.specs.Range.{within};
 ghost use Rattle.joint.specs.Ranges.{rowCounts};
@@ -10,6 +10,7 @@ ghost use Rattle.sharing.specs.Sharing.{shared};
 ghost use Rattle.sharing.specs.Best.{Best};
 ghost use Rattle.allocation.specs.Allocation.{noneAbove, eightPlaces, refusedBy, allocated};
 ghost use Rattle.allocation.specs.Steps.{Shareable, Counted};
+use arithmetic::least;
 
 // No limit above this is taken: refusal 8.
 const MOST: u64 = 4_000_000_000;
@@ -88,12 +89,6 @@ fn count_groups(
         last -= 1;
         lowered = least(limits[first + (last - row)], lowered);
     }
-}
-
-fn least(a: u64, b: u64) -> u64
-    ensures { λ r. ⌜ r ≡ min a b ⌝ }
-{
-    if a < b { a } else { b }
 }
 
 // No limit is above `most`.

@@ -11,6 +11,7 @@ ghost use Rattle.tension.specs.Limits.{extensionBending, rowsIn, groupLi
 ghost use Rattle.tension.specs.Admissible.{Admissible, Measured, Levers, Filled};
 ghost use Rattle.tension.specs.Bending.{extensionLength};
 ghost use Rattle.tension.specs.Dimensions.{stubOf, lengthsOf, lengthBy, bendingBy, webBy, columnBy, plateSideBy, plateBy, websBy, limitBy, dimensionsOf, StubParts, StubWithin, DimensionsWithin};
+use arithmetic::least;
 use joint::Column;
 use joint::Face;
 use joint::Joint;
@@ -119,12 +120,6 @@ fn over(a: u64, b: u64) -> u64
     ensures { λ r. ⌜ r ≡ a - b ⌝ }
 {
     if a < b { 0 } else { a - b }
-}
-
-fn least(a: u64, b: u64) -> u64
-    ensures { λ r. ⌜ r ≡ min a b ⌝ }
-{
-    if a < b { a } else { b }
 }
 
 // The T-stub of a flange or plate, from m, the edge distance that n' is at most, thickness, strength and W.

@@ -14,6 +14,7 @@ ghost use Rattle.verdicts.specs.Bending.{carries};
 ghost use Rattle.verdicts.specs.Bolts.{pairBearing, bearing, idlePair, pullingPair};
 ghost use Rattle.verdicts.specs.Welds.{flangeWeldBy, webWeldPasses, topRows};
 ghost use Rattle.verdicts.specs.Tally.{tallyOf};
+use arithmetic::least;
 use joint::AxialForce;
 use joint::Beam;
 use joint::Bolts;
@@ -175,10 +176,4 @@ pub fn web_weld(face: Face, weld_strength: u64) -> bool
     ensures { λ r. ⌜ r ≡ webWeldPasses face ⌝ }
 {
     (face.loads.shear as u64) <= weld_capacity(face.welds.web, face.welds.length, weld_strength)
-}
-
-fn least(a: u64, b: u64) -> u64
-    ensures { λ r. ⌜ r ≡ min a b ⌝ }
-{
-    if a < b { a } else { b }
 }

@@ -1,7 +1,7 @@
 // Work: one joint worked whole (document 01, 'Work'). The refusals in their order, then limits, compression, cap, row forces and
 // verdicts. Rows count from 0.
 ghost use mathlib.Core.Path.{_≡_};
-ghost use Prim.Native.Nat.{ℕ, _≤_, min};
+ghost use Prim.Native.Nat.{ℕ, _≤_};
 ghost use lib.ListN.{length, getD, take};
 ghost use Rattle.arithmetic.specs.Table.{every};
 ghost use Rattle.joint.specs.InRange.{InRange, LoadsInRange};
@@ -16,6 +16,7 @@ ghost use Rattle.work.specs.Refusals.{belowAbove, between, rowsInPlace, 
 ghost use Rattle.work.specs.Joint.{rowsOf, leversOf, limitOf, steelOf, governingOf, capOf, forcesOf, verdictsOf};
 ghost use Rattle.work.specs.Work.{capCase, refusedBy, resultOf, fromThickness, fromLevers, worked};
 ghost use Rattle.work.specs.Demand.{Demand3};
+use arithmetic::least;
 use compression::CompressionCheck;
 use joint::AxialForce;
 use joint::Face;
@@ -211,12 +212,6 @@ fn row_forces(
     let mut limits = tension::group_limits(joint, spacing, steel, pair);
     limits[whole] = least(limits[whole], cap);
     allocation::share(rows, &limits)
-}
-
-fn least(a: u64, b: u64) -> u64
-    ensures { λ r. ⌜ r ≡ min a b ⌝ }
-{
-    if a < b { a } else { b }
 }
 
 // The whole result of a joint that isn't refused.

@@ -9,12 +9,6 @@ use Rattle.sharing.specs.Groups.{groupCount}
 use Rattle.allocation.proofs.Answers.{at-most-eight, product-le, refused-by-3, refused-by-7, refused-by-8, shareable, taken, no-refusal-is-best}
 use Rattle.allocation.proofs.allocate.Statement.{statement}
 use Rattle.allocation.proofs.allocate.Tie as tie
-use Rattle.allocation.proofs.allocate.Reads as reads
-use Rattle.allocation.proofs.allocate.Lts as lts
-use Rattle.allocation.proofs.none_above.Reads as none-above-reads
-use Rattle.allocation.proofs.refused.Reads as refused-reads
-use Rattle.allocation.proofs.row_count.Reads as row-count-reads
-use Rattle.allocation.proofs.share.Reads as share-reads
 
 row-count-requires : tie.Need-row-count-requires
 row-count-requires c κs = search needs

@@ -11,9 +11,6 @@ use Rattle.allocation.specs.Steps.{Shareable, Counted}
 use Rattle.allocation.proofs.Counting.{place-inside, lowered-le-most, lowest, lower, none-counted, one-more}
 use Rattle.allocation.proofs.count_groups.Statement.{statement}
 use Rattle.allocation.proofs.count_groups.Tie as tie
-use Rattle.allocation.proofs.count_groups.Reads as reads
-use Rattle.allocation.proofs.count_groups.Lts as lts
-use Rattle.allocation.proofs.least.Reads as least-reads
 
 abbrev Inv-loop : tie.InvT-loop
 Inv-loop sums₀ limits first row count above last₀ lowered₀ sums last lowered =

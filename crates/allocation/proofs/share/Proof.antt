@@ -8,9 +8,6 @@ use Rattle.sharing.proofs.Places.{groups-inside}
 use Rattle.allocation.proofs.Rows.{SharedDownTo, sum-le-most, start, down-grows, turn, finish}
 use Rattle.allocation.proofs.share.Statement.{statement}
 use Rattle.allocation.proofs.share.Tie as tie
-use Rattle.allocation.proofs.share.Reads as reads
-use Rattle.allocation.proofs.share.Lts as lts
-use Rattle.allocation.proofs.count_groups.Reads as count-groups-reads
 
 abbrev Inv-loop : tie.InvT-loop
 Inv-loop count limits forces₀ sums₀ above₀ first₀ row₀ forces sums above first row =

@@ -1,0 +1,42 @@
+// The program `sheet`: joint files end to end on standard input, a line for each on standard output.
+use libc::STDIN_FILENO;
+use libc::STDOUT_FILENO;
+use sheets::Printed;
+ghost use Prim.Native.Nat.{_≤_};
+ghost use mathlib.Core.Path.{_≡_};
+ghost use lib.ListN.{length};
+ghost use Rattle.sheet.specs.Whole.{Whole};
+
+// Zeros for what is read: one more than a sheet takes, so that an input that is too long is seen to be.
+fn input_space() -> [u8; 65537]
+    ensures { λ r. ⌜ 65537 ≡ length r ⌝ }
+{
+    [0; 65537]
+}
+
+// Zeros for what is printed: no sheet is longer.
+fn output_space() -> [u8; 618355]
+    ensures { λ r. ⌜ 618355 ≡ length r ⌝ }
+{
+    [0; 618355]
+}
+
+// Prints the sheet of the input, whole, to the front of the output. There is always room for it.
+fn print_sheet(input: &[u8], output: &mut [u8]) -> usize
+    requires { ⌜ 618355 ≤ length (now output) ⌝ }
+    ensures { λ r. ⌜ Whole (now (input .entry)) (now (output .entry)) (now (output .exit)) r ⌝ }
+{
+    let printed = sheets::sheet(input, output);
+    match printed {
+        Printed::Length(size) => size,
+        Printed::NoRoom => 0,
+    }
+}
+
+fn main() {
+    let mut input = input_space();
+    let got = io::read_full(STDIN_FILENO, &mut input);
+    let mut output = output_space();
+    let size = print_sheet(&input[..got], &mut output);
+    io::write_all(STDOUT_FILENO, &output[..size]);
+}
