@@ -1,0 +1,215 @@
+//! Times the proved calls and the plain reading side by side, in one process and one run: for each line, rounds of the sides in turn,
+//! and the median of each. Prints a table for a page of docs/.
+
+mod rounds;
+mod words;
+
+use proved::{FORCES, JOINT_WORDS, OUTCOME_WORDS};
+use reference::{Joint, GROUPS, LONGEST_FILE, LONGEST_INPUT};
+use rounds::measure;
+use sample::{file_of, worked_joint, Random};
+use std::hint::black_box;
+
+const SEED: u64 = 7;
+/// Different inputs of each line.
+const INPUTS: usize = 512;
+
+fn main() {
+    let mut random = Random::new(SEED);
+    println!("Nanoseconds a call, medians, {INPUTS} different inputs a line; ratio is plain ÷ proved, over the same words and bytes.");
+    println!("The last column is plain Rust on its own types. No buffer is cleared between calls.");
+    println!();
+    println!("| call | proved | plain Rust | ratio | plain, own types |");
+    println!("|---|---:|---:|---:|---:|");
+    line("read, 1 to 8 rows", time_read(&mut random));
+    line("write, 1 to 8 rows", time_write(&mut random));
+    line("allocate, 8 rows", time_allocate(&mut random));
+    line("work, 1 row", time_work(&mut random, 1));
+    line("work, 3 rows", time_work(&mut random, 3));
+    line("work, 8 rows", time_work(&mut random, 8));
+    let input = full_input(&mut random);
+    sheet_line(&input, time_sheet(&input));
+}
+
+/// Times are of a run over all inputs.
+fn line(call: &str, times: [f64; 3]) {
+    let [proved, plain, native] = times.map(|time| time / INPUTS as f64);
+    println!(
+        "| {call} | {proved:.1} | {plain:.1} | {:.2} | {native:.1} |",
+        plain / proved
+    );
+}
+
+fn sheet_line(input: &[u8], times: [f64; 2]) {
+    let [proved, plain] = times.map(|time| input.len() as f64 * 1000.0 / time);
+    println!(
+        "| sheet, {} bytes, megabytes a second | {proved:.0} | {plain:.0} | {:.2} | |",
+        input.len(),
+        times[1] / times[0]
+    );
+}
+
+/// Joints of one to eight rows, as many of each.
+fn mixed_joints(random: &mut Random) -> Vec<Joint> {
+    (0..INPUTS)
+        .map(|input| worked_joint(random, input as u32 % 8 + 1))
+        .collect()
+}
+
+fn time_read(random: &mut Random) -> [f64; 3] {
+    let files: Vec<Vec<u8>> = mixed_joints(random).iter().map(file_of).collect();
+    let mut proved_words = [0; JOINT_WORDS];
+    let mut plain_words = [0; JOINT_WORDS];
+    let mut next = 0;
+    let mut plain_next = 0;
+    measure([
+        &mut || {
+            for file in &files {
+                black_box(proved::read(black_box(file), &mut proved_words, &mut next));
+                black_box((&proved_words, next));
+            }
+        },
+        &mut || {
+            for file in &files {
+                black_box(words::read(
+                    black_box(file),
+                    &mut plain_words,
+                    &mut plain_next,
+                ));
+                black_box((&plain_words, plain_next));
+            }
+        },
+        &mut || {
+            for file in &files {
+                black_box(&reference::read(black_box(file)));
+            }
+        },
+    ])
+}
+
+fn time_write(random: &mut Random) -> [f64; 3] {
+    let joints = mixed_joints(random);
+    let joint_words: Vec<[u32; JOINT_WORDS]> = joints.iter().map(Joint::to_fields).collect();
+    let mut proved_buffer = [0; LONGEST_FILE];
+    let mut plain_buffer = [0; LONGEST_FILE];
+    let mut native_buffer = [0; LONGEST_FILE];
+    let mut length = 0;
+    let mut plain_length = 0;
+    measure([
+        &mut || {
+            for fields in &joint_words {
+                black_box(proved::write(
+                    black_box(fields),
+                    &mut proved_buffer,
+                    &mut length,
+                ));
+                black_box((&proved_buffer, length));
+            }
+        },
+        &mut || {
+            for fields in &joint_words {
+                black_box(words::write(
+                    black_box(fields),
+                    &mut plain_buffer,
+                    &mut plain_length,
+                ));
+                black_box((&plain_buffer, plain_length));
+            }
+        },
+        &mut || {
+            for joint in &joints {
+                black_box(&reference::write(black_box(joint), &mut native_buffer));
+                black_box(&native_buffer);
+            }
+        },
+    ])
+}
+
+fn time_allocate(random: &mut Random) -> [f64; 3] {
+    let table = |random: &mut Random| (0..GROUPS).map(|_| random.below(3_000_000)).collect();
+    let tables: Vec<Vec<u64>> = (0..INPUTS).map(|_| table(random)).collect();
+    let mut proved_forces = [0; FORCES];
+    let mut plain_forces = [0; FORCES];
+    measure([
+        &mut || {
+            for limits in &tables {
+                black_box(proved::allocate(
+                    black_box(8),
+                    black_box(limits),
+                    &mut proved_forces,
+                ));
+                black_box(&proved_forces);
+            }
+        },
+        &mut || {
+            for limits in &tables {
+                black_box(words::allocate(
+                    black_box(8),
+                    black_box(limits),
+                    &mut plain_forces,
+                ));
+                black_box(&plain_forces);
+            }
+        },
+        &mut || {
+            for limits in &tables {
+                black_box(&reference::allocate(black_box(8), black_box(limits)));
+            }
+        },
+    ])
+}
+
+fn time_work(random: &mut Random, rows: u32) -> [f64; 3] {
+    let joints: Vec<Joint> = (0..INPUTS).map(|_| worked_joint(random, rows)).collect();
+    let joint_words: Vec<[u32; JOINT_WORDS]> = joints.iter().map(Joint::to_fields).collect();
+    let mut proved_outcome = [0; OUTCOME_WORDS];
+    let mut plain_outcome = [0; OUTCOME_WORDS];
+    measure([
+        &mut || {
+            for fields in &joint_words {
+                black_box(proved::work(black_box(fields), &mut proved_outcome));
+                black_box(&proved_outcome);
+            }
+        },
+        &mut || {
+            for fields in &joint_words {
+                black_box(words::work(black_box(fields), &mut plain_outcome));
+                black_box(&plain_outcome);
+            }
+        },
+        &mut || {
+            for joint in &joints {
+                black_box(&reference::work(black_box(joint)));
+            }
+        },
+    ])
+}
+
+/// Files end to end, of which the last is cut where the longest input ends.
+fn full_input(random: &mut Random) -> Vec<u8> {
+    let mut input = Vec::new();
+    while input.len() < LONGEST_INPUT {
+        let rows = random.between(1, 8);
+        input.extend(file_of(&worked_joint(random, rows)));
+    }
+    input.truncate(LONGEST_INPUT);
+    input
+}
+
+/// Into buffers that are used again: a slice, and a vector that keeps its room.
+fn time_sheet(input: &[u8]) -> [f64; 2] {
+    let mut output = vec![0; 4 * LONGEST_INPUT];
+    let mut lines = Vec::with_capacity(4 * LONGEST_INPUT);
+    let mut length = 0;
+    measure([
+        &mut || {
+            black_box(proved::sheet(black_box(input), &mut output, &mut length));
+            black_box((&output, length));
+        },
+        &mut || {
+            lines.clear();
+            reference::sheet(black_box(input), &mut lines);
+            black_box(&lines);
+        },
+    ])
+}

@@ -1,0 +1,363 @@
+//! One input, both answers.
+
+use crate::tally::Tally;
+use proved::{FORCES, JOINT_WORDS, NO_ROOM, OUTCOME_WORDS, SHORT};
+use reference::{Check, Joint, Outcome, WorkRefusal, LONGEST_FILE, LONGEST_INPUT};
+use sample::{any_joint, Random, Table};
+use std::fmt::Debug;
+
+/// The input and both answers, for printing.
+pub type Difference = String;
+
+fn same<T: PartialEq + Debug>(
+    call: &str,
+    input: &dyn Debug,
+    proved: T,
+    plain: T,
+) -> Result<(), Difference> {
+    if proved == plain {
+        return Ok(());
+    }
+    Err(format!(
+        "{call}\ninput: {input:?}\nproved: {proved:?}\nplain:  {plain:?}"
+    ))
+}
+
+/// What a slice holds before a call, so that a stray write shows.
+const MARK_64: u64 = 0x5a5a_5a5a_5a5a_5a5a;
+const MARK_32: u32 = 0x5a5a_5a5a;
+const MARK_8: u8 = 0x5a;
+
+// ---- Work
+
+pub fn compare_work(joint: &Joint, tally: &mut Tally) -> Result<(), Difference> {
+    let fields = joint.to_fields();
+    let mut words = [MARK_64; OUTCOME_WORDS + 1];
+    let answer = proved::work(&fields, &mut words);
+    let worked = reference::work(joint);
+    let mut expected = [MARK_64; OUTCOME_WORDS + 1];
+    expected[..OUTCOME_WORDS].copy_from_slice(&outcome_words(&worked));
+    count_worked(joint, &worked, tally);
+    same(
+        "work",
+        &fields,
+        (answer, words),
+        (expected[0] as u32, expected),
+    )
+}
+
+/// Work's answer as the exported call gives it.
+fn outcome_words(worked: &Result<Outcome, WorkRefusal>) -> [u64; OUTCOME_WORDS] {
+    let mut words = [0; OUTCOME_WORDS];
+    match worked {
+        Err(refusal) => {
+            words[0] = u64::from(refusal.number());
+            words[1] = u64::from(refusal.field());
+        }
+        Ok(outcome) => {
+            words[2..10].copy_from_slice(&outcome.forces);
+            words[10] = outcome.sum;
+            words[11] = outcome.newton_metres;
+            words[12] = outcome.cap;
+            words[13] = outcome.check as u64;
+            words[14] = outcome.governing_force;
+            words[15] = u64::from(outcome.verdicts.bending);
+            words[16] = u64::from(outcome.verdicts.bolts);
+            words[17] = u64::from(outcome.verdicts.flange_weld);
+            words[18] = u64::from(outcome.verdicts.web_weld);
+        }
+    }
+    words
+}
+
+fn count_worked(joint: &Joint, worked: &Result<Outcome, WorkRefusal>, tally: &mut Tally) {
+    let outcome = match worked {
+        Ok(outcome) => outcome,
+        Err(refusal) => {
+            if let WorkRefusal::Field(field) = refusal {
+                tally.count_field(*field);
+            }
+            return tally.count(refusal_kind(refusal));
+        }
+    };
+    tally.count("work: worked");
+    tally.count_rows(joint.rows);
+    tally.count(if joint.extended == 1 {
+        "work: extended"
+    } else {
+        "work: flush"
+    });
+    tally.count(match outcome.check {
+        Check::Flange => "work: governed by F",
+        Check::Bearing => "work: governed by B",
+        Check::Buckling => "work: governed by K",
+        Check::Panel => "work: governed by S",
+    });
+    if outcome.sum == outcome.cap {
+        tally.count("work: limited by the cap");
+    }
+    let verdicts = outcome.verdicts;
+    tally.count(if verdicts.bending {
+        "work: bending passes"
+    } else {
+        "work: bending fails"
+    });
+    tally.count(if verdicts.bolts {
+        "work: bolts pass"
+    } else {
+        "work: bolts fail"
+    });
+    tally.count(if verdicts.flange_weld {
+        "work: flange weld passes"
+    } else {
+        "work: flange weld fails"
+    });
+    tally.count(if verdicts.web_weld {
+        "work: web weld passes"
+    } else {
+        "work: web weld fails"
+    });
+}
+
+fn refusal_kind(refusal: &WorkRefusal) -> &'static str {
+    match refusal {
+        WorkRefusal::Field(_) => "work: refusal 10",
+        WorkRefusal::LeverOrder => "work: refusal 11",
+        WorkRefusal::RowPlace => "work: refusal 12",
+        WorkRefusal::TooTight => "work: refusal 13",
+        WorkRefusal::TooThick => "work: refusal 14",
+        WorkRefusal::Compression => "work: refusal 15",
+    }
+}
+
+// ---- Write and Read
+
+/// Writes the joint to a buffer of some length, and reads back what is there.
+pub fn compare_file(
+    joint: &Joint,
+    random: &mut Random,
+    tally: &mut Tally,
+) -> Result<(), Difference> {
+    let fields = joint.to_fields();
+    let size = random.below(2 * LONGEST_FILE as u64) as usize;
+    let mut buffer = vec![MARK_8; size];
+    let mut length = usize::MAX;
+    let answer = proved::write(&fields, &mut buffer, &mut length);
+    let mut expected = vec![MARK_8; size];
+    let (number, expected_length, kind) = match reference::write(joint, &mut expected) {
+        Ok(length) => (0, length, "write: file"),
+        Err(refusal) => (refusal as u32, 0, write_kind(refusal)),
+    };
+    tally.count(kind);
+    same(
+        "write",
+        &(fields, size),
+        (answer, length, &buffer),
+        (number, expected_length, &expected),
+    )?;
+    compare_read(&buffer, tally)
+}
+
+fn write_kind(refusal: reference::WriteRefusal) -> &'static str {
+    match refusal {
+        reference::WriteRefusal::RowCount => "write: refusal 3",
+        reference::WriteRefusal::ShortBuffer => "write: refusal 5",
+        reference::WriteRefusal::SpareLever => "write: refusal 6",
+    }
+}
+
+fn compare_read(bytes: &[u8], tally: &mut Tally) -> Result<(), Difference> {
+    let mut fields = [MARK_32; JOINT_WORDS + 1];
+    let mut next = usize::MAX;
+    let answer = proved::read(bytes, &mut fields, &mut next);
+    let mut expected = [MARK_32; JOINT_WORDS + 1];
+    let (number, place) = match reference::read(bytes) {
+        Ok((joint, rest)) => {
+            expected[..JOINT_WORDS].copy_from_slice(&joint.to_fields());
+            tally.count("read: joint");
+            (0, bytes.len() - rest.len())
+        }
+        Err(refusal) => {
+            expected[..JOINT_WORDS].fill(0);
+            tally.count(
+                ["read: refusal 1", "read: refusal 2", "read: refusal 3"][refusal as usize - 1],
+            );
+            (refusal as u32, bytes.len())
+        }
+    };
+    same(
+        "read",
+        &bytes,
+        (answer, next, fields),
+        (number, place, expected),
+    )?;
+    let start = proved::rest(bytes);
+    same(
+        "rest",
+        &bytes,
+        bytes.get(start..),
+        Some(reference::rest(bytes)),
+    )
+}
+
+// ---- Allocate
+
+pub fn compare_allocate(
+    table: &Table,
+    random: &mut Random,
+    tally: &mut Tally,
+) -> Result<(), Difference> {
+    let size = FORCES + random.below(3) as usize;
+    let mut forces = vec![MARK_64; size];
+    let answer = proved::allocate(table.count, &table.limits, &mut forces);
+    let mut expected = vec![MARK_64; size];
+    let (number, eight) = match reference::allocate(table.count, &table.limits) {
+        Ok(forces) => (0, forces),
+        Err(refusal) => (refusal as u32, [0; FORCES]),
+    };
+    expected[..FORCES].copy_from_slice(&eight);
+    tally.count(match number {
+        0 => "allocate: shared",
+        3 => "allocate: refusal 3",
+        7 => "allocate: refusal 7",
+        _ => "allocate: refusal 8",
+    });
+    same("allocate", table, (answer, forces), (number, expected))
+}
+
+// ---- Streams
+
+pub fn compare_stream(
+    bytes: &[u8],
+    random: &mut Random,
+    tally: &mut Tally,
+) -> Result<(), Difference> {
+    let mut place = 0;
+    loop {
+        let rest = &bytes[place..];
+        compare_read(rest, tally)?;
+        let taken = proved::rest(rest);
+        if rest.is_empty() || taken == rest.len() || bytes.len() > LONGEST_INPUT {
+            break;
+        }
+        place += taken;
+    }
+    compare_sheet(bytes, random, tally)
+}
+
+/// The sheet into a buffer that mostly has room for it.
+fn compare_sheet(bytes: &[u8], random: &mut Random, tally: &mut Tally) -> Result<(), Difference> {
+    let mut lines = Vec::new();
+    reference::sheet(bytes, &mut lines);
+    count_sheet(bytes, &lines, tally);
+    let spare = random.below(20) as usize;
+    let size = if random.one_in(4) {
+        random.below(lines.len() as u64 + 1) as usize
+    } else {
+        lines.len() + spare
+    };
+    let mut output = vec![MARK_8; size];
+    let mut length = usize::MAX;
+    let answer = proved::sheet(bytes, &mut output, &mut length);
+    let mut expected = vec![MARK_8; size];
+    if size < lines.len() {
+        tally.count("sheet: no room");
+        let whole = whole_lines(&lines[..size]);
+        expected[..whole].copy_from_slice(&lines[..whole]);
+        return same(
+            "sheet",
+            &(bytes, size),
+            (answer, length, output),
+            (NO_ROOM, 0, expected),
+        );
+    }
+    expected[..lines.len()].copy_from_slice(&lines);
+    same(
+        "sheet",
+        &(bytes, size),
+        (answer, length, output),
+        (0, lines.len(), expected),
+    )
+}
+
+/// Bytes of the lines that are whole.
+fn whole_lines(lines: &[u8]) -> usize {
+    lines
+        .iter()
+        .rposition(|&byte| byte == b'\n')
+        .map_or(0, |place| place + 1)
+}
+
+fn count_sheet(bytes: &[u8], lines: &[u8], tally: &mut Tally) {
+    tally.count(if bytes.len() > LONGEST_INPUT {
+        "sheet: R 4"
+    } else if lines.is_empty() {
+        "sheet: nothing"
+    } else if lines.ends_with(b" R 1\n") || lines.ends_with(b" R 2\n") || lines.ends_with(b" R 3\n")
+    {
+        "sheet: ended by a read refusal"
+    } else {
+        "sheet: to the end of the input"
+    });
+}
+
+// ---- Slices that are too short
+
+pub fn compare_short(random: &mut Random, tally: &mut Tally) -> Result<(), Difference> {
+    let joint = any_joint(random);
+    let fields = joint.to_fields();
+    let few_fields = &fields[..random.below(JOINT_WORDS as u64) as usize];
+
+    tally.count("short: allocate");
+    let mut forces = vec![MARK_64; random.below(FORCES as u64) as usize];
+    let untouched = forces.clone();
+    let answer = proved::allocate(1, &[1], &mut forces);
+    same(
+        "short allocate",
+        &forces.len(),
+        (answer, &forces),
+        (SHORT, &untouched),
+    )?;
+
+    tally.count("short: read");
+    let file = sample::file_of(&joint);
+    let mut words = vec![MARK_32; random.below(JOINT_WORDS as u64) as usize];
+    let untouched = words.clone();
+    let mut next = 77;
+    let answer = proved::read(&file, &mut words, &mut next);
+    same(
+        "short read",
+        &(&file, words.len()),
+        (answer, &words, next),
+        (SHORT, &untouched, 77),
+    )?;
+
+    tally.count("short: write");
+    let mut buffer = [MARK_8; LONGEST_FILE];
+    let mut length = 77;
+    let answer = proved::write(few_fields, &mut buffer, &mut length);
+    same(
+        "short write",
+        &few_fields,
+        (answer, buffer, length),
+        (SHORT, [MARK_8; LONGEST_FILE], 77),
+    )?;
+
+    tally.count("short: work");
+    let mut outcome = [MARK_64; OUTCOME_WORDS];
+    let answer = proved::work(few_fields, &mut outcome);
+    same(
+        "short work",
+        &few_fields,
+        (answer, outcome),
+        (SHORT, [MARK_64; OUTCOME_WORDS]),
+    )?;
+    let places = random.below(OUTCOME_WORDS as u64) as usize;
+    let answer = proved::work(&fields, &mut outcome[..places]);
+    same(
+        "short work",
+        &(fields, places),
+        (answer, outcome),
+        (SHORT, [MARK_64; OUTCOME_WORDS]),
+    )
+}

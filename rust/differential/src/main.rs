@@ -1,0 +1,57 @@
+//! Compares the proved calls with the plain reading over random joints, limit tables and byte streams.
+//! Usage: differential [SEED [JOINTS]]. The exit status is 1 at the first difference, whose input is printed in full, and where some
+//! refusal, check or verdict was never reached.
+
+mod compare;
+mod tally;
+
+use compare::{
+    compare_allocate, compare_file, compare_short, compare_stream, compare_work, Difference,
+};
+use sample::{any_joint, stream, table, Random};
+use std::process::ExitCode;
+use tally::Tally;
+
+const SEED: u64 = 20_000_605;
+const JOINTS: u64 = 1_000_000;
+
+fn main() -> ExitCode {
+    let mut arguments = std::env::args()
+        .skip(1)
+        .map(|word| word.parse::<u64>().expect("a whole number"));
+    let seed = arguments.next().unwrap_or(SEED);
+    let joints = arguments.next().unwrap_or(JOINTS);
+    println!("seed {seed}");
+    let mut tally = Tally::default();
+    if let Err(difference) = run(seed, joints, &mut tally) {
+        println!("DIFFERENCE\n{difference}");
+        return ExitCode::FAILURE;
+    }
+    print!("{tally}");
+    let missed = tally.missed();
+    if joints >= JOINTS && !missed.is_empty() {
+        println!("never reached: {missed:?}");
+        return ExitCode::FAILURE;
+    }
+    println!("no difference");
+    ExitCode::SUCCESS
+}
+
+fn run(seed: u64, joints: u64, tally: &mut Tally) -> Result<(), Difference> {
+    let mut random = Random::new(seed);
+    for _ in 0..joints {
+        let joint = any_joint(&mut random);
+        compare_work(&joint, tally)?;
+        compare_file(&joint, &mut random, tally)?;
+    }
+    for _ in 0..joints {
+        compare_allocate(&table(&mut random), &mut random, tally)?;
+    }
+    for _ in 0..joints / 4 {
+        compare_stream(&stream(&mut random), &mut random, tally)?;
+    }
+    for _ in 0..joints / 100 {
+        compare_short(&mut random, tally)?;
+    }
+    Ok(())
+}

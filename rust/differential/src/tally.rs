@@ -1,0 +1,106 @@
+//! How often each kind of input and answer occurred.
+
+use std::collections::BTreeMap;
+use std::fmt;
+
+/// What a run of full size has to reach.
+const KINDS: [&str; 43] = [
+    "allocate: refusal 3",
+    "allocate: refusal 7",
+    "allocate: refusal 8",
+    "allocate: shared",
+    "read: joint",
+    "read: refusal 1",
+    "read: refusal 2",
+    "read: refusal 3",
+    "sheet: R 4",
+    "sheet: ended by a read refusal",
+    "sheet: no room",
+    "sheet: nothing",
+    "sheet: to the end of the input",
+    "short: allocate",
+    "short: read",
+    "short: work",
+    "short: write",
+    "work: bending fails",
+    "work: bending passes",
+    "work: bolts fail",
+    "work: bolts pass",
+    "work: extended",
+    "work: flange weld fails",
+    "work: flange weld passes",
+    "work: flush",
+    "work: governed by B",
+    "work: governed by F",
+    "work: governed by K",
+    "work: governed by S",
+    "work: limited by the cap",
+    "work: refusal 10",
+    "work: refusal 11",
+    "work: refusal 12",
+    "work: refusal 13",
+    "work: refusal 14",
+    "work: refusal 15",
+    "work: web weld fails",
+    "work: web weld passes",
+    "work: worked",
+    "write: file",
+    "write: refusal 3",
+    "write: refusal 5",
+    "write: refusal 6",
+];
+
+#[derive(Default)]
+pub struct Tally {
+    counts: BTreeMap<&'static str, u64>,
+    fields: BTreeMap<u32, u64>,
+    rows: BTreeMap<u32, u64>,
+}
+
+impl Tally {
+    pub fn count(&mut self, kind: &'static str) {
+        *self.counts.entry(kind).or_default() += 1;
+    }
+
+    /// A worked joint's rows.
+    pub fn count_rows(&mut self, rows: u32) {
+        *self.rows.entry(rows).or_default() += 1;
+    }
+
+    /// The field that refusal 10 told.
+    pub fn count_field(&mut self, field: u32) {
+        *self.fields.entry(field).or_default() += 1;
+    }
+
+    /// What was not reached.
+    pub fn missed(&self) -> Vec<String> {
+        let kinds = KINDS
+            .iter()
+            .filter(|kind| !self.counts.contains_key(**kind))
+            .map(|kind| kind.to_string());
+        let fields = (1..=37)
+            .filter(|field| !self.fields.contains_key(field))
+            .map(|field| format!("field {field}"));
+        let rows = (1..=8)
+            .filter(|rows| !self.rows.contains_key(rows))
+            .map(|rows| format!("{rows} rows"));
+        kinds.chain(fields).chain(rows).collect()
+    }
+}
+
+impl fmt::Display for Tally {
+    fn fmt(&self, out: &mut fmt::Formatter) -> fmt::Result {
+        for (kind, count) in &self.counts {
+            writeln!(out, "{count:>9}  {kind}")?;
+        }
+        let listed = |counts: &BTreeMap<u32, u64>| {
+            let items: Vec<String> = counts
+                .iter()
+                .map(|(key, count)| format!("{key}: {count}"))
+                .collect();
+            items.join(", ")
+        };
+        writeln!(out, "worked joints by rows: {}", listed(&self.rows))?;
+        writeln!(out, "refusal 10 by field: {}", listed(&self.fields))
+    }
+}

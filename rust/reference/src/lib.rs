@@ -1,0 +1,20 @@
+//! Document 01 read in plain Rust, with no eye on the proved code. Rows count from 0 here, from 1 in document 01.
+
+mod compression;
+mod file;
+mod joint;
+mod outcome;
+mod range;
+mod sharing;
+mod sheet;
+mod strength;
+mod tension;
+mod verdict;
+mod work;
+
+pub use file::{read, rest, write, ReadRefusal, WriteRefusal, LONGEST_FILE};
+pub use joint::{Joint, FIELDS, ROWS};
+pub use outcome::{Check, Outcome, Verdicts, WorkRefusal};
+pub use sharing::{allocate, AllocateRefusal, GROUPS};
+pub use sheet::{sheet, LONGEST_INPUT};
+pub use work::work;

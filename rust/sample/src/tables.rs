@@ -1,0 +1,57 @@
+//! Random limit tables for Allocate.
+
+use crate::random::Random;
+
+/// A count of rows and the limits handed with it.
+#[derive(Debug)]
+pub struct Table {
+    pub count: usize,
+    pub limits: Vec<u64>,
+}
+
+const GREATEST: u64 = 4_000_000_000;
+
+pub fn table(random: &mut Random) -> Table {
+    let count = count(random);
+    let needed = count.min(9) * (count.min(9) + 1) / 2;
+    let length = match random.below(16) {
+        0 => random.below(needed as u64 + 1) as usize,
+        1 => needed.saturating_sub(1),
+        2 | 3 => needed + random.below(10) as usize,
+        _ => needed,
+    };
+    let kind = random.below(8);
+    let limits = (0..length).map(|_| limit(random, kind)).collect();
+    Table { count, limits }
+}
+
+fn count(random: &mut Random) -> usize {
+    match random.below(64) {
+        0 => 0,
+        1 => 9,
+        2 => random.pick(&[
+            10,
+            255,
+            256,
+            usize::MAX,
+            usize::MAX / 2 + 1,
+            1 << 32,
+            (1 << 32) + 1,
+            (1 << 33) + 8,
+        ]),
+        _ => random.between(1, 8) as usize,
+    }
+}
+
+fn limit(random: &mut Random, kind: u64) -> u64 {
+    match kind {
+        0 => random.below(4),
+        1 => random.below(1000),
+        2 => GREATEST - random.below(3),
+        3 if random.one_in(40) => GREATEST + 1 + random.below(3),
+        3 => random.below(GREATEST + 1),
+        4 if random.one_in(60) => random.next() | 1 << 63,
+        4 => random.pick(&[0, 1, GREATEST, GREATEST - 1, GREATEST / 2]),
+        _ => random.below(3_000_000),
+    }
+}
