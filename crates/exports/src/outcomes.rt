@@ -4,7 +4,6 @@ ghost use Prim.Native.Nat.{_≤_};
 ghost use lib.ListN.{length};
 ghost use Rattle.exports.specs.Words.{front};
 ghost use Rattle.exports.specs.Outcomes.{checkNumber, flag, toldOf, figuresOf, outcomeWords};
-
 use crate::put::put_eight_u64;
 use crate::put::put_u64;
 use compression::CompressionCheck;

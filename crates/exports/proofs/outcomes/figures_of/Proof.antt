@@ -27,13 +27,14 @@ returns : tie.Need-returns
 unfolding figuresOf
 returns c =
     let weld = c .before .before .before in
-    rw
-    (weld .before .before .check-number .ensures,
-    weld .before .force-of .ensures,
-    weld .flag-of .ensures,
-    c .before .before .flag-of2 .ensures,
-    c .before .flag-of3 .ensures,
-    c .flag-of4 .ensures)
+    rw (
+      weld .before .before .check-number .ensures,
+      weld .before .force-of .ensures,
+      weld .flag-of .ensures,
+      c .before .before .flag-of2 .ensures,
+      c .before .flag-of3 .ensures,
+      c .flag-of4 .ensures,
+    )
 
 pub figures-of-spec : {M : Type 1} → statement M
 figures-of-spec =
