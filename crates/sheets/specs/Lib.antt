@@ -1,1 +1,3 @@
+-- What a sheet is, as a definition on bytes.
+-- Assumes nothing.
 pub mod Sheet
