@@ -104,6 +104,10 @@ fn main() {
         text(b"The input is too long.\n");
         return;
     }
+    if size == 0 {
+        text(b"There are no vectors.\n");
+        return;
+    }
     let tally = run_all(&input[..size]);
     text(b"  ");
     tell_counts(tally.ran, tally.agreed);
