@@ -1,0 +1,59 @@
+// Work on stored joints.
+use crate::stored::fill;
+use crate::stored::is_end;
+use crate::stored::joint_at;
+use crate::tell::are_items;
+use crate::tell::bad_record;
+use compression::CompressionCheck;
+use outcome::Outcome;
+
+// The letters F, B, K, S of a compression check, counted from 1.
+pub fn check_number(check: CompressionCheck) -> u64 {
+    match check {
+        CompressionCheck::Flange(_) => 1,
+        CompressionCheck::Bearing(_) => 2,
+        CompressionCheck::Buckling(_) => 3,
+        CompressionCheck::Panel(_) => 4,
+    }
+}
+
+// Refusal, field, eight forces, sum, newton metres, cap, check and its newtons, four verdicts.
+fn items_of(outcome: Outcome) -> [u64; 19] {
+    let forces = outcome.forces;
+    let verdicts = outcome.verdicts;
+    let check = outcome.check;
+    [
+        outcome.refusal as u64,
+        outcome.field as u64,
+        forces[0],
+        forces[1],
+        forces[2],
+        forces[3],
+        forces[4],
+        forces[5],
+        forces[6],
+        forces[7],
+        outcome.sum,
+        outcome.newton_metres,
+        outcome.cap,
+        check_number(check),
+        compression::force_of(check),
+        verdicts.bending as u64,
+        verdicts.bolts as u64,
+        verdicts.flange_weld as u64,
+        verdicts.web_weld as u64,
+    ]
+}
+
+// A record: a joint, and the items of its outcome.
+pub fn run(vector: u64, bytes: &[u8]) -> bool {
+    let stored = joint_at(bytes);
+    let mut should = [0u64; 19];
+    let next = stored.next;
+    let end = fill(bytes, next, &mut should);
+    if !is_end(bytes, end) {
+        return bad_record(vector);
+    }
+    let are = items_of(work::work(stored.joint));
+    are_items(vector, &are, &should)
+}
