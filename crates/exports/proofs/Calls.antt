@@ -84,7 +84,7 @@ rest-place bytes all = ap (λ (k : ℕ). drop k bytes) (rest-next bytes) ∙ nex
 -- ---- Write
 
 pub write-short : (fields buffer : List ℕ) (size : ℕ) → length fields < 37
-    → record { number = 100; buffer = buffer; length = size } ≡ writingInto fields buffer size
+    → record { number = 100; buffer = buffer; count = size } ≡ writingInto fields buffer size
 unfolding writingInto
 write-short fields buffer size short = simp (lt-leb 37 (length fields) short)
 

@@ -52,15 +52,15 @@ readingInto bytes fields next =
 pub record WriteTold : Type 0 where
   pub number : ℕ
   pub buffer : List ℕ
-  pub length : ℕ
+  pub count : ℕ
 
 abbrev pub writeAnswer : Writing → WriteTold
-writeAnswer writing = record { number = writing .refusal; buffer = writing .buffer; length = writing .size }
+writeAnswer writing = record { number = writing .refusal; buffer = writing .buffer; count = writing .size }
 
 unfoldable pub writingInto : List ℕ → List ℕ → ℕ → WriteTold
 writingInto fields buffer size =
     cond (leb 37 (length fields)) (writeAnswer (writing (jointOfWords fields) buffer))
-    (record { number = 100; buffer = buffer; length = size })
+    (record { number = 100; buffer = buffer; count = size })
 
 -- ---- Work
 
@@ -85,12 +85,12 @@ workingInto fields words =
 pub record SheetTold : Type 0 where
   pub number : ℕ
   pub output : List ℕ
-  pub length : ℕ
+  pub count : ℕ
 
 -- 101: there is no room for all lines
 abbrev pub sheetAnswer : Printing → SheetTold
-sheetAnswer (whole size output) = record { number = 0; output = output; length = size }
-sheetAnswer (cut output) = record { number = 101; output = output; length = 0 }
+sheetAnswer (whole size output) = record { number = 0; output = output; count = size }
+sheetAnswer (cut output) = record { number = 101; output = output; count = 0 }
 
 abbrev pub sheetingInto : List ℕ → List ℕ → SheetTold
 sheetingInto input output = sheetAnswer (printing (sheetLines input) output)

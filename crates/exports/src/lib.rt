@@ -58,7 +58,7 @@ pub extern "C" fn jinqewan_rest(bytes: &[u8]) -> usize
 // Write: the file goes to the buffer's front and its length to `length`, 0 in a refusal.
 #[no_mangle]
 pub extern "C" fn jinqewan_write(fields: &[u32], buffer: &mut [u8], length: &mut usize) -> u32
-    ensures { λ r. ⌜ record { number = r; buffer = now (buffer .exit); length = now (length .exit) } ≡ writingInto (now (fields .entry)) (now (buffer .entry)) (now (length .entry)) ⌝ }
+    ensures { λ r. ⌜ record { number = r; buffer = now (buffer .exit); count = now (length .exit) } ≡ writingInto (now (fields .entry)) (now (buffer .entry)) (now (length .entry)) ⌝ }
 {
     if fields.len() < 37 {
         return SHORT;
@@ -96,7 +96,7 @@ pub extern "C" fn jinqewan_work(fields: &[u32], outcome: &mut [u64]) -> u32
 // the length is 0.
 #[no_mangle]
 pub extern "C" fn jinqewan_sheet(input: &[u8], output: &mut [u8], length: &mut usize) -> u32
-    ensures { λ r. ⌜ record { number = r; output = now (output .exit); length = now (length .exit) } ≡ sheetingInto (now (input .entry)) (now (output .entry)) ⌝ }
+    ensures { λ r. ⌜ record { number = r; output = now (output .exit); count = now (length .exit) } ≡ sheetingInto (now (input .entry)) (now (output .entry)) ⌝ }
 {
     let printed = sheets::sheet(input, output);
     match printed {
