@@ -1,4 +1,3 @@
 -- Laws on plain numbers that the root's proofs cite.
-mod Length
 mod Guesses
 mod Newton

@@ -10,7 +10,7 @@ pub enum Root {
 }
 
 // The first guess for each length in bits, 1 to 64: the root of the greatest number of that length.
-const GUESSES: [u64; 64] = [
+const GUESSES: [u32; 64] = [
     1,
     1,
     2,
@@ -97,28 +97,13 @@ fn first_guess(x: u64) -> u64
     requires { ⌜ 0 < x ⌝ }
     ensures { λ r. ⌜ Guess x r ⌝ }
 {
-    GUESSES[bit_length(x) - 1]
+    GUESSES[bit_length(x) - 1] as u64
 }
 
-// The length of x in bits. The bits still looked at are halved each time: `dropped` of the lowest are gone, and what is left of x has
-// at most `span`.
+// The length of x in bits.
 fn bit_length(x: u64) -> usize
     requires { ⌜ 0 < x ⌝ }
     ensures { λ r. ⌜ BitLength x r ⌝ }
 {
-    let mut left = x;
-    let mut dropped: usize = 0;
-    let mut span: usize = 64;
-    while 1 < span {
-        let half = span / 2;
-        let high = left >> half;
-        if high == 0 {
-            span = half;
-        } else {
-            left = high;
-            dropped += half;
-            span -= half;
-        }
-    }
-    dropped + 1
+    (64 - u64::leading_zeros(x)) as usize
 }

@@ -35,3 +35,6 @@ stored table whole t x n l =
       above = lt-of-lt-of-le (rw from-one at (l .high)) (leb→le (2 ^ (k + 1)) ((guess + 1) * (guess + 1)) (both .0));
       small = ltb→lt guess (2 ^ 32) (both .1);
     }
+
+pub stored-small : (table : List ℕ) → length table ≡ 64 → T (every safe 0 table) → (x n : ℕ) → BitLength x n → getD table (n - 1) 0 < 2 ^ 32
+stored-small table whole t x n l = stored table whole t x n l .small

@@ -1,59 +1,27 @@
--- `compression::root::bit_length` meets its contract. The invariant is a scan's, in Length.antt; the measure is the span, which halves.
+-- `compression::root::bit_length` meets its contract: the zeros above x's highest set bit, and x's length, make 64.
 -- Assumes nothing.
+use mathlib.Core.Path.{_≡_, subst, sym}
+use Prim.Native.Nat.{ℕ, suc, _-_}
 use native.Mathlib.Omega.{arith}
-use Rattle.compression.proofs.root.Length.{Scan, start, lower, upper, end}
+use borrow.Author.Needs.{needs}
+use lib.Count.{leadingZeros, leading-le, leading-top}
+use Rattle.compression.specs.Root.{BitLength}
 use Rattle.compression.proofs.root.bit_length.Statement.{statement}
 use Rattle.compression.proofs.root.bit_length.Tie as tie
 
-abbrev Inv-loop : tie.InvT-loop
-Inv-loop x left₀ dropped₀ span₀ left dropped span = Scan x left dropped span
+sub-result : tie.Need-sub-result
+sub-result c = leading-le 64 (c .args .x)
 
-abbrev μ-loop : tie.MeasureT-loop
-μ-loop x left₀ dropped₀ span₀ left dropped span = span
+cast-result : tie.Need-cast-result
+cast-result c = search needs
 
-loop-holds : tie.Need-loop-holds Inv-loop μ-loop
-loop-holds c = start (c .pre) (c .fits .x .fits)
-
-shr-high : tie.Need-shr-high Inv-loop μ-loop
-shr-high c = omega arith
-
-loop-less : tie.Need-loop-less Inv-loop μ-loop
-loop-less c = omega arith
-
-loop-again : tie.Need-loop-again Inv-loop μ-loop
-loop-again c = lower (c .before .before .loop .inv) (c .if1 .taken) (c .before .loop-test .taken)
-
-add-dropped : tie.Need-add-dropped Inv-loop μ-loop
-add-dropped c = omega arith
-
-sub-span : tie.Need-sub-span Inv-loop μ-loop
-sub-span c = omega arith
-
-loop-less-2 : tie.Need-loop-less-2 Inv-loop μ-loop
-loop-less-2 c = omega arith
-
-loop-again-2 : tie.Need-loop-again-2 Inv-loop μ-loop
-loop-again-2 c = upper (c .before .before .loop .inv) (c .if1 .left)
-
-add-result : tie.Need-add-result Inv-loop μ-loop
-add-result c = omega arith
-
-returns : tie.Need-returns Inv-loop μ-loop
-returns c = end (c .before .loop .inv) (c .loop-test .left)
+returns : tie.Need-returns
+returns c =
+    let x = c .args .x in
+    let top = leading-top 64 x (c .pre) (c .fits .x .fits) in
+    let back : suc (top .0) - 1 ≡ top .0 = omega arith in
+    let length : 64 - leadingZeros 64 x ≡ suc (top .0) = omega (arith, top .1) in
+    subst (BitLength x) (sym length) (record { some = omega arith; most = omega (arith, top .1); low = rw back (top .2); high = top .3 })
 
 pub bit-length-spec : {M : Type 1} → statement M
-bit-length-spec =
-    tie.close
-    (tie.spec
-    Inv-loop
-    μ-loop
-    loop-holds
-    shr-high
-    loop-less
-    loop-again
-    add-dropped
-    sub-span
-    loop-less-2
-    loop-again-2
-    add-result
-    returns)
+bit-length-spec = tie.close (tie.spec sub-result cast-result returns)
