@@ -1,29 +1,41 @@
--- A file put into a buffer: what is refused for want of room, and that two parts put one after the other are the whole.
--- Assumes nothing.
-use Prim.Native.Nat.{ℕ, _+_, _≤_, _<_}
+-- A file put into a buffer: how long it may be, what is refused for want of room, and that two parts put one after the other are the
+-- whole. Assumes nothing.
+use Prim.Native.Nat.{ℕ, _+_, _≤_}
 use mathlib.Core.Path.{_≡_, sym, _∙_}
+use mathlib.Core.Bool.{true, false}
 use mathlib.Core.List.{List, _++_}
 use native.Mathlib.Omega.{arith}
 use native.Mathlib.Nat.{zero-add}
-use borrow.Author.Tests.{le-leb, lt-leb}
+use borrow.Author.Tests.{leb-true, le-leb}
+use lib.Dec.{leb}
 use lib.ListN.{length, drop, length-append}
 use lib.Seq.{sets, sets-eq}
-use Rattle.numbers.specs.Run.{Put}
+use Rattle.numbers.specs.Run.{storedAll, Put}
 use Rattle.numbers.proofs.Puts.{sets-append}
+use Rattle.numbers.proofs.Sizes.{storedAll-short}
 use Rattle.jointfile.specs.Write.{turnedDown, placed}
 
-pub placed-short : (bytes buffer : List ℕ) → length buffer < length bytes → turnedDown buffer 5 ≡ placed bytes buffer
-unfolding placed
-placed-short bytes buffer short = simp (lt-leb (length bytes) (length buffer) short)
+-- no number takes more than five bytes
+pub parts-fit : (xs ys : List ℕ) (room : ℕ) → length xs ≤ 29 → length ys ≤ 8 → 185 ≤ room → true ≡ leb (length (storedAll xs ++ storedAll ys)) room
+parts-fit xs ys room few fewer wide =
+    sym (le-leb (length (storedAll xs ++ storedAll ys)) room (rw length-append (omega (arith, storedAll-short xs, storedAll-short ys))))
 
--- two parts put one after the other are the whole
-pub placed-parts : {xs ys buffer between exit : List ℕ} {at next : ℕ} → Put buffer 0 xs between at → Put between at ys exit next
-    → length xs + length ys ≤ length buffer
-    → record { refusal = 0; size = length xs + length ys; buffer = exit } ≡ placed (xs ++ ys) buffer
+pub placed-short : (bytes buffer : List ℕ) → leb (length bytes) (length buffer) ≡ false → turnedDown buffer 5 ≡ placed bytes buffer
 unfolding placed
-placed-parts {xs} {ys} {buffer} {between} {exit} {at} first second room =
-    let size : length (xs ++ ys) ≡ length xs + length ys = length-append xs ys in
-    let both : exit ≡ sets buffer 0 (xs ++ ys) = second .stores ∙ rw (first .stores, first .place) (sym (sets-append buffer 0 xs ys)) in
-    let whole : exit ≡ (xs ++ ys) ++ drop (length (xs ++ ys)) buffer =
-    both ∙ sets-eq (xs ++ ys) buffer 0 (omega arith) ∙ rw zero-add in
-    simp (le-leb (length (xs ++ ys)) (length buffer) (omega arith)) (λ i. record { refusal = 0; size = sym size i; buffer = whole i })
+placed-short bytes buffer short = simp short
+
+module _ (xs ys buffer : List ℕ) (room : leb (length (xs ++ ys)) (length buffer) ≡ true) where
+  -- the two parts' lengths
+  pub room-parts : length xs + length ys ≤ length buffer
+  room-parts = rw (← length-append xs ys) (leb-true (length (xs ++ ys)) (length buffer) room)
+
+  -- two parts put one after the other are the whole
+  pub placed-parts : {between exit : List ℕ} {at next : ℕ} → Put buffer 0 xs between at → Put between at ys exit next
+      → record { refusal = 0; size = next; buffer = exit } ≡ placed (xs ++ ys) buffer
+  unfolding placed
+  placed-parts {between} {exit} {at} {next} first second =
+      let size : next ≡ length (xs ++ ys) = rw length-append (omega (arith, first .place, second .place)) in
+      let both : exit ≡ sets buffer 0 (xs ++ ys) = second .stores ∙ rw (first .stores, first .place) (sym (sets-append buffer 0 xs ys)) in
+      let whole : exit ≡ (xs ++ ys) ++ drop (length (xs ++ ys)) buffer =
+      both ∙ sets-eq (xs ++ ys) buffer 0 (omega (arith, room-parts, length-append xs ys)) ∙ rw zero-add in
+      simp room (λ i. record { refusal = 0; size = size i; buffer = whole i })

@@ -1,7 +1,7 @@
 // Joint files: `read` takes a joint off the front of any bytes, `rest` is what is left after it, and `write` puts a joint's file into a
 // lent buffer. Each goes over the bytes once, from front to back. Two things are done twice, for a reason. `write` measures the
-// numbers before it puts them, since a buffer that is too short stays untouched. And `rest` reads the joint again; a caller that has
-// `read`'s answer need not ask it, since the bytes from the answer's next place on are what is left.
+// numbers before it puts them where the buffer may be too short for them, since such a buffer stays untouched. And `rest` reads the
+// joint again; a caller that has `read`'s answer need not ask it, since the bytes from the answer's next place on are what is left.
 use fields::fields_of;
 use fields::joint_of;
 use joint::Joint;
@@ -17,6 +17,7 @@ use numbers::run::stored_size;
 ghost use Prim.Native.Nat.{_≤_};
 ghost use mathlib.Core.Path.{_≡_};
 ghost use mathlib.Core.List.{_++_};
+ghost use lib.Dec.{leb};
 ghost use lib.ListN.{length, drop};
 ghost use Rattle.arithmetic.specs.Range.{within};
 ghost use Rattle.joint.specs.Ranges.{rowCounts};
@@ -108,18 +109,28 @@ pub enum Written {
     Refused(u32),
 }
 
-// Puts the file into the buffer, if there is room for it. The bounds keep the sizes' sum in range.
+// Whether so many places hold the file. Five bytes a number are always enough, so only shorter buffers ask for measuring.
+fn has_room(fields: &[u32], levers: &[u32], room: usize) -> bool
+    requires { ⌜ (length (now fields) ≤ 29) × (length (now levers) ≤ 8) ⌝ }
+    ensures { λ r. ⌜ r ≡ leb (length (storedAll (now (fields .entry)) ++ storedAll (now (levers .entry)))) room ⌝ }
+{
+    if 5 * (29 + 8) <= room {
+        return true;
+    }
+    stored_size(fields) + stored_size(levers) <= room
+}
+
+// Puts the file into the buffer, if there is room for it.
 fn put_file(fields: &[u32], levers: &[u32], buffer: &mut [u8]) -> Written
     requires { ⌜ (length (now fields) ≤ 29) × (length (now levers) ≤ 8) ⌝ }
     ensures { λ r. ⌜ writtenTold r (now (buffer .exit)) ≡ placed (storedAll (now (fields .entry)) ++ storedAll (now (levers .entry))) (now (buffer .entry)) ⌝ }
 {
-    let size = stored_size(fields) + stored_size(levers);
-    if buffer.len() < size {
-        return Written::Refused(5);
+    if has_room(fields, levers, buffer.len()) {
+        let at = put_numbers(buffer, 0, fields);
+        let size = put_numbers(buffer, at, levers);
+        return Written::Length(size);
     }
-    let at = put_numbers(buffer, 0, fields);
-    put_numbers(buffer, at, levers);
-    Written::Length(size)
+    Written::Refused(5)
 }
 
 // Writes the file of a joint whose row count is right: 6 is tried before 5.
