@@ -1,14 +1,14 @@
 -- Reading a joint, case by case: what the runs of numbers that the code reads say of the definition, for each place where it stops.
 -- Assumes nothing.
 use Prim.Native.Nat.{ℕ, zero, suc, _-_, _≤_}
-use mathlib.Core.Path.{_≡_, sym}
+use mathlib.Core.Path.{_≡_, refl, sym}
 use mathlib.Core.List.{List, _∷_, _++_}
 use mathlib.Core.Bool.{true, false, and-eq-true-iff}
 use native.Mathlib.Omega.{arith}
 use native.Mathlib.Nat.{sub-zero, zero-sub}
 use borrow.Author.Tests.{leb-true}
 use lib.Dec.{leb}
-use lib.ListN.{length, take, drop, replicate, length-drop}
+use lib.ListN.{length, getD, take, drop, replicate, length-drop}
 use Rattle.arithmetic.specs.Range.{within}
 use Rattle.joint.specs.Ranges.{rowCounts}
 use Rattle.joint.specs.declared.Joint.{Joint}
@@ -80,6 +80,10 @@ module _ {bytes : List ℕ} where
     rows-taken e = rw (sym (read .told), e)
 
 -- ---- writing
+
+pub first-field : (joint : Joint) → getD (fieldsOf joint) 0 0 ≡ joint .face .rows
+unfolding fieldsOf
+first-field joint = refl
 
 module _ (fields : List ℕ) (rows : ℕ) (levers buffer : List ℕ) where
   pub writing-spare : allZero (drop rows levers) ≡ false → turnedDown buffer 6 ≡ writingRows fields rows levers buffer

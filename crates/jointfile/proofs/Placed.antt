@@ -1,24 +1,34 @@
 -- A file put into a buffer: how long it may be, what is refused for want of room, and that two parts put one after the other are the
 -- whole. Assumes nothing.
-use Prim.Native.Nat.{ℕ, _+_, _≤_}
+use Prim.Native.Nat.{ℕ, _+_, _-_, _*_, _≤_}
 use mathlib.Core.Path.{_≡_, sym, _∙_}
 use mathlib.Core.Bool.{true, false}
-use mathlib.Core.List.{List, _++_}
+use mathlib.Core.List.{List, [], _∷_, _++_}
 use native.Mathlib.Omega.{arith}
 use native.Mathlib.Nat.{zero-add}
 use borrow.Author.Tests.{leb-true, le-leb}
 use lib.Dec.{leb}
-use lib.ListN.{length, drop, length-append}
+use lib.ListN.{length, getD, drop, length-append}
 use lib.Seq.{sets, sets-eq}
+use Rattle.numbers.specs.Number.{stored}
 use Rattle.numbers.specs.Run.{storedAll, Put}
+use Rattle.numbers.proofs.Codec.{groups-last}
 use Rattle.numbers.proofs.Puts.{sets-append}
 use Rattle.numbers.proofs.Sizes.{storedAll-short}
 use Rattle.jointfile.specs.Write.{turnedDown, placed}
 
--- no number takes more than five bytes
-pub parts-fit : (xs ys : List ℕ) (room : ℕ) → length xs ≤ 29 → length ys ≤ 8 → 185 ≤ room → true ≡ leb (length (storedAll xs ++ storedAll ys)) room
-parts-fit xs ys room few fewer wide =
-    sym (le-leb (length (storedAll xs ++ storedAll ys)) room (rw length-append (omega (arith, storedAll-short xs, storedAll-short ys))))
+-- a number below 128 takes one byte, and no number more than five
+first-short : (xs : List ℕ) → getD xs 0 0 ≤ 8 → length (storedAll xs) ≤ 1 + 5 * (length xs - 1)
+unfolding storedAll
+first-short [] few = omega arith
+first-short (x ∷ xs) few =
+    let one : length (stored x) ≡ 1 = rw (groups-last 4 x (omega arith)) in
+    rw length-append (omega (arith, storedAll-short xs))
+
+pub parts-fit : (xs ys : List ℕ) (room : ℕ) → length xs ≤ 29 → getD xs 0 0 ≤ 8 → length ys ≤ 8 → 181 ≤ room
+    → true ≡ leb (length (storedAll xs ++ storedAll ys)) room
+parts-fit xs ys room few first fewer wide =
+    sym (le-leb (length (storedAll xs ++ storedAll ys)) room (rw length-append (omega (arith, first-short xs first, storedAll-short ys))))
 
 pub placed-short : (bytes buffer : List ℕ) → leb (length bytes) (length buffer) ≡ false → turnedDown buffer 5 ≡ placed bytes buffer
 unfolding placed

@@ -18,7 +18,7 @@ ghost use Prim.Native.Nat.{_≤_};
 ghost use mathlib.Core.Path.{_≡_};
 ghost use mathlib.Core.List.{_++_};
 ghost use lib.Dec.{leb};
-ghost use lib.ListN.{length, drop};
+ghost use lib.ListN.{length, getD, drop};
 ghost use Rattle.arithmetic.specs.Range.{within};
 ghost use Rattle.joint.specs.Ranges.{rowCounts};
 ghost use Rattle.numbers.specs.Outcome.{refused};
@@ -109,12 +109,15 @@ pub enum Written {
     Refused(u32),
 }
 
-// Whether so many places hold the file. Five bytes a number are always enough, so only shorter buffers ask for measuring.
+// No file is longer: field 1 takes one byte, each of the other 36 numbers at most five.
+const LONGEST_FILE: usize = 181;
+
+// Whether so many places hold the file. Only a buffer that is shorter than the longest file asks for measuring.
 fn has_room(fields: &[u32], levers: &[u32], room: usize) -> bool
-    requires { ⌜ (length (now fields) ≤ 29) × (length (now levers) ≤ 8) ⌝ }
+    requires { ⌜ (length (now fields) ≤ 29) × (getD (now fields) 0 0 ≤ 8) × (length (now levers) ≤ 8) ⌝ }
     ensures { λ r. ⌜ r ≡ leb (length (storedAll (now (fields .entry)) ++ storedAll (now (levers .entry)))) room ⌝ }
 {
-    if 5 * (29 + 8) <= room {
+    if LONGEST_FILE <= room {
         return true;
     }
     stored_size(fields) + stored_size(levers) <= room
@@ -122,7 +125,7 @@ fn has_room(fields: &[u32], levers: &[u32], room: usize) -> bool
 
 // Puts the file into the buffer, if there is room for it.
 fn put_file(fields: &[u32], levers: &[u32], buffer: &mut [u8]) -> Written
-    requires { ⌜ (length (now fields) ≤ 29) × (length (now levers) ≤ 8) ⌝ }
+    requires { ⌜ (length (now fields) ≤ 29) × (getD (now fields) 0 0 ≤ 8) × (length (now levers) ≤ 8) ⌝ }
     ensures { λ r. ⌜ writtenTold r (now (buffer .exit)) ≡ placed (storedAll (now (fields .entry)) ++ storedAll (now (levers .entry))) (now (buffer .entry)) ⌝ }
 {
     if has_room(fields, levers, buffer.len()) {
@@ -135,7 +138,7 @@ fn put_file(fields: &[u32], levers: &[u32], buffer: &mut [u8]) -> Written
 
 // Writes the file of a joint whose row count is right: 6 is tried before 5.
 fn write_rows(fields: [u32; 29], rows: u32, levers: [u32; 8], buffer: &mut [u8]) -> Written
-    requires { ⌜ rows ≤ 8 ⌝ }
+    requires { ⌜ (rows ≤ 8) × (getD fields 0 0 ≤ 8) ⌝ }
     ensures { λ r. ⌜ writtenTold r (now (buffer .exit)) ≡ writingRows fields rows levers (now (buffer .entry)) ⌝ }
 {
     let count = rows as usize;

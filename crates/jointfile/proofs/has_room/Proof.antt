@@ -1,4 +1,4 @@
--- `has_room` meets its contract: a long buffer holds five bytes for each number, and a shorter one is held against what was measured.
+-- `has_room` meets its contract: a buffer of the longest file's length holds any, and a shorter one is held against what was measured.
 -- Assumes nothing.
 use Prim.Native.Nat.{ℕ, _+_}
 use mathlib.Core.Path.{sym, ap, ap₂, _∙_}
@@ -13,16 +13,10 @@ use borrow.Author.Needs.{needs}
 use Rattle.jointfile.proofs.has_room.Statement.{statement}
 use Rattle.jointfile.proofs.has_room.Tie as tie
 
-add-if1 : tie.Need-add-if1
-add-if1 c = search needs
-
-mul-if1 : tie.Need-mul-if1
-mul-if1 c = search needs
-
 returns : tie.Need-returns
 returns c =
     let s = c .before .before .before in
-    parts-fit (now (s .args .fields)) (now (s .args .levers)) (s .args .room) (s .pre .0) (s .pre .1) (c .if1 .taken)
+    parts-fit (now (s .args .fields)) (now (s .args .levers)) (s .args .room) (s .pre .0) (s .pre .1) (s .pre .2) (c .if1 .taken)
 
 stored-size-requires : tie.Need-stored-size-requires
 stored-size-requires c κs = search needs
@@ -44,4 +38,4 @@ returns-2 c =
 
 pub has-room-spec : {M : Type 1} → statement M
 has-room-spec =
-    tie.close (tie.spec add-if1 mul-if1 returns stored-size-requires stored-size-requires-2 add-result returns-2)
+    tie.close (tie.spec returns stored-size-requires stored-size-requires-2 add-result returns-2)

@@ -5,7 +5,7 @@ use mathlib.Core.List.{List}
 use Prim.Native.Nat.{ℕ}
 use denote.Ref.{now}
 use Rattle.jointfile.specs.Write.{writingRows}
-use Rattle.jointfile.proofs.Answers.{row-count-most, writing-refused, writing-rows}
+use Rattle.jointfile.proofs.Answers.{row-count-most, first-field, writing-refused, writing-rows}
 use borrow.Author.Needs.{needs}
 use Rattle.jointfile.proofs.write.Statement.{statement}
 use Rattle.jointfile.proofs.write.Tie as tie
@@ -19,7 +19,8 @@ fields-of-requires c κs = search needs
 write-rows-requires : tie.Need-write-rows-requires
 write-rows-requires c κs =
     let tested = c .before .before in
-    row-count-most _ (sym (tested .before .is-row-count .ensures) ∙ tested .if1 .taken)
+    let few = row-count-most _ (sym (tested .before .is-row-count .ensures) ∙ tested .if1 .taken) in
+    (few, rw (c .before .fields-of .ensures, first-field) few)
 
 same-length : tie.Need-same-length
 same-length c = search needs

@@ -37,8 +37,8 @@ slice-aggregate-put-file-2 c = sym (length-take-le _ _ (omega arith))
 
 put-file-requires : tie.Need-put-file-requires
 put-file-requires c κs =
-    let args = c .before .before .before .before .before .before .before .before .args in
-    (omega arith, omega (arith, length-take (args .rows) (args .t3)))
+    let s = c .before .before .before .before .before .before .before .before in
+    (omega arith, s .pre .1, omega (arith, length-take (s .args .rows) (s .args .t3)))
 
 same-length : tie.Need-same-length
 same-length c = search needs
