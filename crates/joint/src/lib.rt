@@ -135,21 +135,41 @@ pub enum FieldCheck {
     Outside(u32),
 }
 
-// Checks every field of a joint, in file order.
+// Checks every field of a joint, in file order, and stops after the first part of it in which one fails.
 pub fn check_fields(joint: Joint) -> FieldCheck
     ensures { λ r. ⌜ r ≡ fieldCheck joint ⌝ }
 {
-    let column = joint.column;
     let face = joint.face;
-    let beam = face.beam;
-    let plate = face.plate;
     let levers = face.levers;
     let head = check_head(face.rows, face.extended, joint.bolts);
-    let grades = check_grades(head, column.grade, beam.grade, plate.grade);
-    let sections = check_beam(check_column(grades, column), beam);
-    let layout = check_plate(sections, face.extended, plate, face.layout);
-    let welds = check_welds(layout, face.welds, face.shear_rows);
-    check_levers(check_loads(welds, face.loads), face.rows, levers)
+    let FieldCheck::AllInRange = head else {
+        return head;
+    };
+    let grades = check_grades(joint.column.grade, face.beam.grade, face.plate.grade);
+    let FieldCheck::AllInRange = grades else {
+        return grades;
+    };
+    let column = check_column(joint.column);
+    let FieldCheck::AllInRange = column else {
+        return column;
+    };
+    let beam = check_beam(face.beam);
+    let FieldCheck::AllInRange = beam else {
+        return beam;
+    };
+    let plate = check_plate(face.extended, face.plate, face.layout);
+    let FieldCheck::AllInRange = plate else {
+        return plate;
+    };
+    let welds = check_welds(face.welds, face.shear_rows);
+    let FieldCheck::AllInRange = welds else {
+        return welds;
+    };
+    let loads = check_loads(face.loads);
+    let FieldCheck::AllInRange = loads else {
+        return loads;
+    };
+    check_levers(face.rows, levers)
 }
 
 // What was found before; else this field's number, unless it holds.
@@ -199,17 +219,18 @@ fn check_head(rows: u32, extended: u32, bolts: Bolts) -> FieldCheck
 }
 
 // Fields 5 to 7.
-fn check_grades(found: FieldCheck, column: u32, beam: u32, plate: u32) -> FieldCheck
-    ensures { λ r. ⌜ r ≡ after found (gradeFields column beam plate) ⌝ }
+fn check_grades(column: u32, beam: u32, plate: u32) -> FieldCheck
+    ensures { λ r. ⌜ r ≡ firstOutside (gradeFields column beam plate) ⌝ }
 {
-    graded(graded(graded(found, 5, column), 6, beam), 7, plate)
+    let first = graded(FieldCheck::AllInRange, 5, column);
+    graded(graded(first, 6, beam), 7, plate)
 }
 
 // Fields 8 to 13.
-fn check_column(found: FieldCheck, column: Column) -> FieldCheck
-    ensures { λ r. ⌜ r ≡ after found (columnFields column) ⌝ }
+fn check_column(column: Column) -> FieldCheck
+    ensures { λ r. ⌜ r ≡ firstOutside (columnFields column) ⌝ }
 {
-    let depth = ranged(found, 8, column.depth, 1000, 15000);
+    let depth = ranged(FieldCheck::AllInRange, 8, column.depth, 1000, 15000);
     let width = ranged(depth, 9, column.width, 500, 6000);
     let flange = ranged(width, 10, column.flange, 40, 500);
     let web = ranged(flange, 11, column.web, 30, 400);
@@ -218,20 +239,20 @@ fn check_column(found: FieldCheck, column: Column) -> FieldCheck
 }
 
 // Fields 14 to 17.
-fn check_beam(found: FieldCheck, beam: Beam) -> FieldCheck
-    ensures { λ r. ⌜ r ≡ after found (beamFields beam) ⌝ }
+fn check_beam(beam: Beam) -> FieldCheck
+    ensures { λ r. ⌜ r ≡ firstOutside (beamFields beam) ⌝ }
 {
-    let depth = ranged(found, 14, beam.depth, 1000, 15000);
+    let depth = ranged(FieldCheck::AllInRange, 14, beam.depth, 1000, 15000);
     let width = ranged(depth, 15, beam.width, 500, 6000);
     let flange = ranged(width, 16, beam.flange, 40, 500);
     ranged(flange, 17, beam.web, 30, 400)
 }
 
 // Fields 18 to 22. The edge distance is 0 on a flush plate.
-fn check_plate(found: FieldCheck, extended: u32, plate: Plate, layout: Layout) -> FieldCheck
-    ensures { λ r. ⌜ r ≡ after found (plateFields extended plate layout) ⌝ }
+fn check_plate(extended: u32, plate: Plate, layout: Layout) -> FieldCheck
+    ensures { λ r. ⌜ r ≡ firstOutside (plateFields extended plate layout) ⌝ }
 {
-    let width = ranged(found, 18, plate.width, 500, 6000);
+    let width = ranged(FieldCheck::AllInRange, 18, plate.width, 500, 6000);
     let thickness = ranged(width, 19, plate.thickness, 60, 500);
     let gauge = ranged(thickness, 20, layout.gauge, 300, 3000);
     let flush = extended == 0;
@@ -246,43 +267,49 @@ fn check_plate(found: FieldCheck, extended: u32, plate: Plate, layout: Layout) -
 }
 
 // Fields 23 to 26.
-fn check_welds(found: FieldCheck, welds: Welds, shear_rows: u32) -> FieldCheck
-    ensures { λ r. ⌜ r ≡ after found (weldFields welds «shear_rows») ⌝ }
+fn check_welds(welds: Welds, shear_rows: u32) -> FieldCheck
+    ensures { λ r. ⌜ r ≡ firstOutside (weldFields welds «shear_rows») ⌝ }
 {
-    let flange = ranged(found, 23, welds.flange, 30, 250);
+    let flange = ranged(FieldCheck::AllInRange, 23, welds.flange, 30, 250);
     let web = ranged(flange, 24, welds.web, 30, 250);
     let length = ranged(web, 25, welds.length, 0, 15000);
     ranged(length, 26, shear_rows, 0, 8)
 }
 
 // Fields 27 to 29.
-fn check_loads(found: FieldCheck, loads: Loads) -> FieldCheck
-    ensures { λ r. ⌜ r ≡ after found (loadFields loads) ⌝ }
+fn check_loads(loads: Loads) -> FieldCheck
+    ensures { λ r. ⌜ r ≡ firstOutside (loadFields loads) ⌝ }
 {
     let n = loads.axial;
-    let axial = keep(found, 27, (-10000000 <= n) & (n <= 10000000));
+    let axial = keep(
+        FieldCheck::AllInRange,
+        27,
+        (-10000000 <= n) & (n <= 10000000),
+    );
     let shear = ranged(axial, 28, loads.shear, 0, 10000000);
     ranged(shear, 29, loads.moment, 0, 10000000)
 }
 
 // Fields 30 to 37: the levers of the rows, and the spare ones, which are 0.
-fn check_levers(found: FieldCheck, rows: u32, levers: [u32; 8]) -> FieldCheck
-    ensures { λ r. ⌜ r ≡ after found (leverFields rows 0 levers) ⌝ }
+fn check_levers(rows: u32, levers: [u32; 8]) -> FieldCheck
+    ensures { λ r. ⌜ r ≡ firstOutside (leverFields rows 0 levers) ⌝ }
 {
-    let mut kept = found;
     let mut row: u32 = 0;
     while row < 8 {
         let used = row < rows;
-        kept = ranged(
-            kept,
+        let found = ranged(
+            FieldCheck::AllInRange,
             30 + row,
             levers[row as usize],
             chosen(used, 1, 0),
             chosen(used, 20000, 0),
         );
+        let FieldCheck::AllInRange = found else {
+            return found;
+        };
         row += 1;
     }
-    kept
+    FieldCheck::AllInRange
 }
 
 // One of two ends of a range.

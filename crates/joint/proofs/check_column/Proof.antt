@@ -1,7 +1,7 @@
 -- `joint::check_column` meets its contract: the answers of its six calls join up to that of the list of fields 8 to 13.
 -- Assumes nothing.
 use borrow.Author.Needs.{needs}
-use Rattle.joint.proofs.Fields.{joined}
+use Rattle.joint.proofs.Fields.{joined, from-start}
 use Rattle.joint.proofs.check_column.Statement.{statement}
 use Rattle.joint.proofs.check_column.Tie as tie
 
@@ -24,7 +24,7 @@ ranged-requires-6 : tie.Need-ranged-requires-6
 ranged-requires-6 c κs = search needs
 
 returns : tie.Need-returns
-returns c = rw (c .ranged6 .ensures, c .before .ranged5 .ensures, c .before .before .ranged4 .ensures, c .before .before .before .ranged3 .ensures, c .before .before .before .before .ranged2 .ensures, c .before .before .before .before .before .ranged .ensures) (simp joined)
+returns c = rw (c .ranged6 .ensures, c .before .ranged5 .ensures, c .before .before .ranged4 .ensures, c .before .before .before .ranged3 .ensures, c .before .before .before .before .ranged2 .ensures, c .before .before .before .before .before .ranged .ensures) (simp (joined, ← from-start))
 
 pub check-column-spec : {M : Type 1} → statement M
 check-column-spec =

@@ -1,49 +1,167 @@
--- `joint::check_fields` meets its contract: the answers of the groups join up to that of the whole list.
+-- `joint::check_fields` meets its contract: a part in which a field fails answers for all, and a part that passes leaves the answer to
+-- those after it.
 -- Assumes nothing.
+use mathlib.Core.Path.{_≡_, _∙_}
 use borrow.Author.Needs.{needs}
-use Rattle.joint.specs.Fields.{fieldCheck, fieldsOf, fixedFields}
-use Rattle.joint.proofs.Fields.{joined, from-start}
+use Rattle.joint.specs.Fields.{firstOutside, fieldCheck}
+use Rattle.joint.specs.declared.FieldCheck.{FieldCheck}
+use Rattle.joint.proofs.Fields.{stops, goes-on, from-head, from-grades, from-column, from-beam, from-plate, from-welds, from-loads, from-levers}
 use Rattle.joint.proofs.check_fields.Statement.{statement}
 use Rattle.joint.proofs.check_fields.Tie as tie
+
+-- ---- what the parts after one that passes answer is the joint's answer
+
+after-head : (c : tie.After-enum-told) {answer : FieldCheck} → answer ≡ firstOutside (from-grades (c .before .before .before .before .before .args .joint))
+    → answer ≡ fieldCheck (c .before .before .before .before .before .args .joint)
+after-head c rest = goes-on _ _ (c .before .before .check-head .ensures) (c .enum-told .given .1) rest ∙ from-head _
+
+after-grades : (c : tie.After-enum-told3) {answer : FieldCheck} → answer ≡ firstOutside (from-column (c .before .before .before .before .before .before .before .before .args .joint))
+    → answer ≡ fieldCheck (c .before .before .before .before .before .before .before .before .args .joint)
+after-grades c rest = after-head (c .before .before .before) (goes-on _ _ (c .before .before .check-grades .ensures) (c .enum-told3 .given .1) rest)
+
+after-column : (c : tie.After-enum-told5) {answer : FieldCheck} → answer ≡ firstOutside (from-beam (c .before .before .before .before .before .before .before .before .before .before .before .args .joint))
+    → answer ≡ fieldCheck (c .before .before .before .before .before .before .before .before .before .before .before .args .joint)
+after-column c rest = after-grades (c .before .before .before) (goes-on _ _ (c .before .before .check-column .ensures) (c .enum-told5 .given .1) rest)
+
+after-beam : (c : tie.After-enum-told7) {answer : FieldCheck} → answer ≡ firstOutside (from-plate (c .before .before .before .before .before .before .before .before .before .before .before .before .before .before .args .joint))
+    → answer ≡ fieldCheck (c .before .before .before .before .before .before .before .before .before .before .before .before .before .before .args .joint)
+after-beam c rest = after-column (c .before .before .before) (goes-on _ _ (c .before .before .check-beam .ensures) (c .enum-told7 .given .1) rest)
+
+after-plate : (c : tie.After-enum-told9) {answer : FieldCheck} → answer ≡ firstOutside (from-welds (c .before .before .before .before .before .before .before .before .before .before .before .before .before .before .before .before .before .args .joint))
+    → answer ≡ fieldCheck (c .before .before .before .before .before .before .before .before .before .before .before .before .before .before .before .before .before .args .joint)
+after-plate c rest = after-beam (c .before .before .before) (goes-on _ _ (c .before .before .check-plate .ensures) (c .enum-told9 .given .1) rest)
+
+after-welds : (c : tie.After-enum-told11) {answer : FieldCheck} → answer ≡ firstOutside (from-loads (c .before .before .before .before .before .before .before .before .before .before .before .before .before .before .before .before .before .before .before .before .args .joint))
+    → answer ≡ fieldCheck (c .before .before .before .before .before .before .before .before .before .before .before .before .before .before .before .before .before .before .before .before .args .joint)
+after-welds c rest = after-plate (c .before .before .before) (goes-on _ _ (c .before .before .check-welds .ensures) (c .enum-told11 .given .1) rest)
+
+after-loads : (c : tie.After-enum-told13) {answer : FieldCheck} → answer ≡ firstOutside (from-levers (c .before .before .before .before .before .before .before .before .before .before .before .before .before .before .before .before .before .before .before .before .before .before .before .args .joint))
+    → answer ≡ fieldCheck (c .before .before .before .before .before .before .before .before .before .before .before .before .before .before .before .before .before .before .before .before .before .before .before .args .joint)
+after-loads c rest = after-welds (c .before .before .before) (goes-on _ _ (c .before .before .check-loads .ensures) (c .enum-told13 .given .1) rest)
+
+-- ---- the needs
 
 check-head-requires : tie.Need-check-head-requires
 check-head-requires c κs = search needs
 
+enum-told : tie.Need-enum-told
+enum-told c = search needs
+
+enum-told-2 : tie.Need-enum-told-2
+enum-told-2 c = search needs
+
+returns : tie.Need-returns
+returns c = stops _ (from-grades (c .before .before .before .before .before .args .joint)) (c .before .before .check-head .ensures) (c .enum-told2 .given .1) ∙ from-head _
+
 check-grades-requires : tie.Need-check-grades-requires
 check-grades-requires c κs = search needs
+
+enum-told-3 : tie.Need-enum-told-3
+enum-told-3 c = search needs
+
+enum-told-4 : tie.Need-enum-told-4
+enum-told-4 c = search needs
+
+returns-2 : tie.Need-returns-2
+returns-2 c = after-head (c .before .before .before) (stops _ (from-column (c .before .before .before .before .before .before .before .before .args .joint)) (c .before .before .check-grades .ensures) (c .enum-told4 .given .1))
 
 check-column-requires : tie.Need-check-column-requires
 check-column-requires c κs = search needs
 
+enum-told-5 : tie.Need-enum-told-5
+enum-told-5 c = search needs
+
+enum-told-6 : tie.Need-enum-told-6
+enum-told-6 c = search needs
+
+returns-3 : tie.Need-returns-3
+returns-3 c = after-grades (c .before .before .before) (stops _ (from-beam (c .before .before .before .before .before .before .before .before .before .before .before .args .joint)) (c .before .before .check-column .ensures) (c .enum-told6 .given .1))
+
 check-beam-requires : tie.Need-check-beam-requires
 check-beam-requires c κs = search needs
+
+enum-told-7 : tie.Need-enum-told-7
+enum-told-7 c = search needs
+
+enum-told-8 : tie.Need-enum-told-8
+enum-told-8 c = search needs
+
+returns-4 : tie.Need-returns-4
+returns-4 c = after-column (c .before .before .before) (stops _ (from-plate (c .before .before .before .before .before .before .before .before .before .before .before .before .before .before .args .joint)) (c .before .before .check-beam .ensures) (c .enum-told8 .given .1))
 
 check-plate-requires : tie.Need-check-plate-requires
 check-plate-requires c κs = search needs
 
+enum-told-9 : tie.Need-enum-told-9
+enum-told-9 c = search needs
+
+enum-told-10 : tie.Need-enum-told-10
+enum-told-10 c = search needs
+
+returns-5 : tie.Need-returns-5
+returns-5 c = after-beam (c .before .before .before) (stops _ (from-welds (c .before .before .before .before .before .before .before .before .before .before .before .before .before .before .before .before .before .args .joint)) (c .before .before .check-plate .ensures) (c .enum-told10 .given .1))
+
 check-welds-requires : tie.Need-check-welds-requires
 check-welds-requires c κs = search needs
+
+enum-told-11 : tie.Need-enum-told-11
+enum-told-11 c = search needs
+
+enum-told-12 : tie.Need-enum-told-12
+enum-told-12 c = search needs
+
+returns-6 : tie.Need-returns-6
+returns-6 c = after-plate (c .before .before .before) (stops _ (from-loads (c .before .before .before .before .before .before .before .before .before .before .before .before .before .before .before .before .before .before .before .before .args .joint)) (c .before .before .check-welds .ensures) (c .enum-told12 .given .1))
 
 check-loads-requires : tie.Need-check-loads-requires
 check-loads-requires c κs = search needs
 
+enum-told-13 : tie.Need-enum-told-13
+enum-told-13 c = search needs
+
+enum-told-14 : tie.Need-enum-told-14
+enum-told-14 c = search needs
+
+returns-7 : tie.Need-returns-7
+returns-7 c = after-welds (c .before .before .before) (stops _ (from-levers (c .before .before .before .before .before .before .before .before .before .before .before .before .before .before .before .before .before .before .before .before .before .before .before .args .joint)) (c .before .before .check-loads .ensures) (c .enum-told14 .given .1))
+
 check-levers-requires : tie.Need-check-levers-requires
 check-levers-requires c κs = search needs
 
-returns : tie.Need-returns
-unfolding fieldCheck fieldsOf fixedFields
-returns c = rw (c .check-levers .ensures, c .before .check-loads .ensures, c .before .before .check-welds .ensures, c .before .before .before .check-plate .ensures, c .before .before .before .before .check-beam .ensures, c .before .before .before .before .before .check-column .ensures, c .before .before .before .before .before .before .check-grades .ensures, c .before .before .before .before .before .before .before .check-head .ensures) (simp (joined, ← from-start))
+returns-8 : tie.Need-returns-8
+returns-8 c = after-loads (c .before) (c .check-levers .ensures)
 
 pub check-fields-spec : {M : Type 1} → statement M
 check-fields-spec =
     tie.close
     (tie.spec
     check-head-requires
+    enum-told
+    enum-told-2
+    returns
     check-grades-requires
+    enum-told-3
+    enum-told-4
+    returns-2
     check-column-requires
+    enum-told-5
+    enum-told-6
+    returns-3
     check-beam-requires
+    enum-told-7
+    enum-told-8
+    returns-4
     check-plate-requires
+    enum-told-9
+    enum-told-10
+    returns-5
     check-welds-requires
+    enum-told-11
+    enum-told-12
+    returns-6
     check-loads-requires
+    enum-told-13
+    enum-told-14
+    returns-7
     check-levers-requires
-    returns)
+    returns-8)

@@ -1,24 +1,25 @@
--- `joint::check_levers` meets its contract. The invariant: what was found so far, with the levers that are left, answers what the start
--- with all of them does.
+-- `joint::check_levers` meets its contract. The invariant: the levers that are left answer what all of them do.
 -- Assumes nothing.
 use mathlib.Core.Path.{_≡_, refl, sym, ap, _∙_}
 use Prim.Native.Nat.{_+_, _-_, _≤_, _<_}
 use native.Mathlib.Omega.{arith}
-use lib.ListN.{length, drop}
+use mathlib.Core.List.{[], _∷_, _++_}
+use lib.ListN.{length, getD, drop}
 use lib.Dec.{lit≤}
+use Rattle.arithmetic.specs.Range.{within}
 use Rattle.arithmetic.proofs.Bounds.{within-either}
-use Rattle.joint.specs.declared.FieldCheck.{FieldCheck}
 use borrow.Author.Needs.{needs}
-use Rattle.joint.specs.Fields.{after, leverFields}
-use Rattle.joint.proofs.Fields.{next-lever, no-lever}
+use Rattle.joint.specs.Ranges.{levers}
+use Rattle.joint.specs.Fields.{firstOutside, leverFields}
+use Rattle.joint.proofs.Fields.{from-start, stops, goes-on, next-lever, no-lever}
 use Rattle.joint.proofs.check_levers.Statement.{statement}
 use Rattle.joint.proofs.check_levers.Tie as tie
 
 abbrev Inv-loop : tie.InvT-loop
-Inv-loop rows levers kept₀ row₀ kept row = (row ≤ 8) × (after kept (leverFields rows row (drop row levers)) ≡ after kept₀ (leverFields rows 0 levers))
+Inv-loop rows hs row₀ row = (row ≤ 8) × (firstOutside (leverFields rows row (drop row hs)) ≡ firstOutside (leverFields rows 0 hs))
 
 abbrev μ-loop : tie.MeasureT-loop
-μ-loop rows levers kept₀ row₀ kept row = 8 - row
+μ-loop rows hs row₀ row = 8 - row
 
 loop-holds : tie.Need-loop-holds Inv-loop μ-loop
 loop-holds c = (lit≤ tt, refl)
@@ -44,6 +45,30 @@ chosen-requires-2 c κs = search needs
 ranged-requires : tie.Need-ranged-requires Inv-loop μ-loop
 ranged-requires c κs = search needs
 
+enum-told : tie.Need-enum-told Inv-loop μ-loop
+enum-told c = search needs
+
+enum-told-2 : tie.Need-enum-told-2 Inv-loop μ-loop
+enum-told-2 c = search needs
+
+-- what a turn finds of its lever
+found : (c : tie.After-ranged Inv-loop μ-loop) → let at-loop = c .before .before .before .before in let a = at-loop .before .args in
+    c .ranged .result ≡ firstOutside ((30 + at-loop .loop .row, within (levers (a .rows) (at-loop .loop .row)) (getD (a .t2) (at-loop .loop .row) 0)) ∷ [])
+found c = rw (c .ranged .ensures, c .before .chosen2 .ensures, c .before .before .chosen .ensures) (simp (within-either, from-start))
+
+-- the levers that are left, of which the turn's is the first
+left : (c : tie.After-ranged Inv-loop μ-loop) → let at-loop = c .before .before .before .before in let a = at-loop .before .args in
+    firstOutside (((30 + at-loop .loop .row, within (levers (a .rows) (at-loop .loop .row)) (getD (a .t2) (at-loop .loop .row) 0)) ∷ [])
+    ++ leverFields (a .rows) (at-loop .loop .row + 1) (drop (at-loop .loop .row + 1) (a .t2))) ≡ firstOutside (leverFields (a .rows) 0 (a .t2))
+left c =
+    let at-loop = c .before .before .before .before in
+    let a = at-loop .before .args in
+    let in-array : at-loop .loop .row < length (a .t2) = omega arith in
+    ap firstOutside (sym (next-lever (a .rows) (at-loop .loop .row) (a .t2) in-array)) ∙ at-loop .loop .inv .1
+
+returns : tie.Need-returns Inv-loop μ-loop
+returns c = stops _ _ (found (c .before .before)) (c .enum-told2 .given .1) ∙ left (c .before .before)
+
 add-row : tie.Need-add-row Inv-loop μ-loop
 add-row c = omega arith
 
@@ -51,22 +76,13 @@ loop-less : tie.Need-loop-less Inv-loop μ-loop
 loop-less c = omega arith
 
 loop-again : tie.Need-loop-again Inv-loop μ-loop
-loop-again c =
-    let at-loop = c .before .before .before .before in
-    let a = at-loop .before .args in
-    let in-array : at-loop .loop .row < length (a .t3) = omega arith in (
-      omega arith,
-      ap (λ (found : FieldCheck). after found (leverFields (a .rows) (at-loop .loop .row + 1) (drop (at-loop .loop .row + 1) (a .t3))))
-          (rw (c .ranged .ensures, c .before .chosen2 .ensures, c .before .before .chosen .ensures) (simp within-either))
-          ∙ next-lever (a .rows) (at-loop .loop .row) (a .t3) (at-loop .loop .kept) in-array ∙ at-loop .loop .inv .1,
-    )
+loop-again c = (omega arith, goes-on _ _ (found (c .before .before)) (c .enum-told .given .1) refl ∙ left (c .before .before))
 
-returns : tie.Need-returns Inv-loop μ-loop
-returns c =
-    let at-loop = c .before in
-    let a = at-loop .before .args in
-    let at-end : at-loop .loop .row ≡ length (a .t3) = omega arith in
-    sym (no-lever (a .rows) (at-loop .loop .row) (a .t3) (at-loop .loop .kept) at-end) ∙ at-loop .loop .inv .1
+returns-2 : tie.Need-returns-2 Inv-loop μ-loop
+returns-2 c =
+    let a = c .before .before .args in
+    let at-end : c .before .loop .row ≡ length (a .t2) = omega arith in
+    no-lever (a .rows) (c .before .loop .row) (a .t2) at-end ∙ c .before .loop .inv .1
 
 pub check-levers-spec : {M : Type 1} → statement M
 check-levers-spec =
@@ -82,7 +98,10 @@ check-levers-spec =
     chosen-requires
     chosen-requires-2
     ranged-requires
+    enum-told
+    enum-told-2
+    returns
     add-row
     loop-less
     loop-again
-    returns)
+    returns-2)

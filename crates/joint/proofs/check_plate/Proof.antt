@@ -1,7 +1,7 @@
 -- `joint::check_plate` meets its contract: the answers of its five calls join up, the edge distance's range with its ends chosen apart.
 -- Assumes nothing.
 use borrow.Author.Needs.{needs}
-use Rattle.joint.proofs.Fields.{joined}
+use Rattle.joint.proofs.Fields.{joined, from-start}
 use lib.Dec.{eqb}
 use Rattle.arithmetic.proofs.Bounds.{within-either}
 use Rattle.joint.proofs.check_plate.Statement.{statement}
@@ -34,7 +34,7 @@ returns c =
     let at-gauge = c .before .before .before .before in
     rw
     (c .ranged5 .ensures, c .before .ranged4 .ensures, c .before .before .chosen2 .ensures, c .before .before .before .chosen .ensures, at-gauge .ranged3 .ensures, at-gauge .before .ranged2 .ensures, at-gauge .before .before .ranged .ensures, within-either (eqb (at-start .args .extended) 0) 0 0 150 2000 (at-start .args .layout .edge))
-    (simp joined)
+    (simp (joined, ← from-start))
 
 pub check-plate-spec : {M : Type 1} → statement M
 check-plate-spec =
