@@ -4,7 +4,7 @@ ghost use mathlib.Core.Path.{_≡_};
 ghost use Prim.Native.Nat.{ℕ, _+_, _-_, _*_, _/_, _≤_, _<_, min};
 ghost use mathlib.Core.Bool.{cond};
 ghost use lib.Dec.{eqb};
-ghost use lib.ListN.{getD};
+ghost use lib.ListN.{getD, replicate};
 ghost use Rattle.arithmetic.specs.Range.{Within, _to_};
 ghost use Rattle.tension.specs.Spacing.{spacingOf};
 ghost use Rattle.tension.specs.Limits.{extensionBending, rowsIn, groupLimit};
@@ -267,16 +267,23 @@ fn group_limit(d: Dimensions, row: usize, rows: u64, rise: u64) -> u64
     with_webs(d, row, rise, plate)
 }
 
-// The limit of every group of a joint's rows: groups 1–1, 1–2, .. 1–n, 2–2 and so on.
-pub fn group_limits(joint: Joint, spacing: Spacing, steel: SteelStrengths, pair: u64) -> [u64; 36]
+// The limit of every group of a joint's rows, put over the zeros of a lent table: groups 1–1, 1–2, .. 1–n, 2–2 and so on.
+pub fn group_limits(
+    joint: Joint,
+    spacing: Spacing,
+    steel: SteelStrengths,
+    pair: u64,
+    table: &mut [u64; 36],
+)
     requires { ⌜ Admissible joint ⌝ }
     requires { ⌜ Measured joint spacing steel pair ⌝ }
-    ensures { λ r. ⌜ Filled (joint .face .rows) (groupLimit (joint .column) (joint .bolts) (joint .face)) r ⌝ }
+    requires { ⌜ now table ≡ replicate 36 0 ⌝ }
+    ensures { λ _. ⌜ Filled (joint .face .rows) (groupLimit (joint .column) (joint .bolts) (joint .face)) (now (table .exit)) ⌝ }
 {
     let d = dimensions_of(joint, spacing, steel, pair);
     let face = joint.face;
     let levers = face.levers;
-    fill_limits(d, face.rows as usize, levers)
+    fill_limits(d, face.rows as usize, levers, table);
 }
 
 // What of the limits hangs on no group.
@@ -333,12 +340,12 @@ fn extension_limit(joint: Joint, spacing: Spacing, steel: SteelStrengths, pair: 
 }
 
 // Every group's limit, row by row and from the shortest group to the longest.
-fn fill_limits(d: Dimensions, rows: usize, levers: [u32; 8]) -> [u64; 36]
+fn fill_limits(d: Dimensions, rows: usize, levers: [u32; 8], table: &mut [u64; 36])
     requires { ⌜ DimensionsWithin d ⌝ }
     requires { ⌜ Levers rows levers ⌝ }
-    ensures { λ r. ⌜ Filled rows (λ i j. limitBy d i (rowsIn i j) (getD levers i 0 - getD levers j 0)) r ⌝ }
+    requires { ⌜ now table ≡ replicate 36 0 ⌝ }
+    ensures { λ _. ⌜ Filled rows (λ i j. limitBy d i (rowsIn i j) (getD levers i 0 - getD levers j 0)) (now (table .exit)) ⌝ }
 {
-    let mut table = [0u64; 36];
     let mut next = 0;
     let mut row = 0;
     let mut last = 0;
@@ -352,5 +359,4 @@ fn fill_limits(d: Dimensions, rows: usize, levers: [u32; 8]) -> [u64; 36]
             last = row;
         }
     }
-    table
 }

@@ -114,7 +114,8 @@ fn row_forces(
 {
     let rows = joint.face.rows as usize;
     let whole = rows - 1;
-    let mut limits = tension::group_limits(joint, spacing, steel, pair);
+    let mut limits = [0u64; 36];
+    tension::group_limits(joint, spacing, steel, pair, &mut limits);
     limits[whole] = least(limits[whole], cap);
     allocation::share(rows, &limits)
 }

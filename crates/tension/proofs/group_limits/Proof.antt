@@ -17,19 +17,21 @@ cast-fill-limits c = search needs
 
 fill-limits-requires : tie.Need-fill-limits-requires
 fill-limits-requires c κs =
-    let s = c .before .before .before .before in
-    (rw (c .before .before .before .dimensions-of .ensures) (dimensions-within (s .args .joint) (s .pre .0)), levers-of (s .args .joint) (s .pre .0))
+    let s = c .before .before .before .before .before in (
+      rw (c .before .before .before .before .dimensions-of .ensures) (dimensions-within (s .args .joint) (s .pre .0)),
+      (levers-of (s .args .joint) (s .pre .0), s .pre .1 .1),
+    )
 
 returns : tie.Need-returns
 returns c =
-    let s = c .before .before .before .before .before in
+    let s = c .before .before .before .before .before .before in
     let j = s .args .joint in
     let filled = c .fill-limits .ensures in
     record {
       size = filled .size;
       agrees = λ row last h inside.
           filled .agrees row last h inside
-          ∙ ap (λ d. limitBy d row (rowsIn row last) (rise (j .face) row last)) (c .before .before .before .before .dimensions-of .ensures)
+          ∙ ap (λ d. limitBy d row (rowsIn row last) (rise (j .face) row last)) (c .before .before .before .before .before .dimensions-of .ensures)
           ∙ limit-worked (j .column) (j .bolts) (j .face) row last;
       bounded = filled .bounded;
     }

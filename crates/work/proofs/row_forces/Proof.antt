@@ -36,13 +36,13 @@ slice-aggregate-share c = search needs
 
 share-requires : tie.Need-share-requires
 share-requires c κs =
-    let s = c .before .before .before .before in
+    let s = c .before .before .before .before .before in
     let rows = s .pre .0 .in-range .face .rows in
     shareable _ (s .args .cap) _ _ (c .before .before .group-limits .ensures) (rows .low) (rows .high) _ (c .before .least .ensures)
 
 returns : tie.Need-returns
 returns c =
-    let s = c .before .before .before .before .before in
+    let s = c .before .before .before .before .before .before in
     let rows = s .pre .0 .in-range .face .rows in
     let filled = c .before .before .before .group-limits .ensures in
     let lower = c .before .before .least .ensures in (
