@@ -15,8 +15,8 @@ use Rattle.allocation.specs.Allocation.{noneAbove, eightPlaces, allocated}
 use Rattle.strength.specs.Steel.{steelStrength, steelBearing, weldStrength}
 use Rattle.strength.specs.Bolt.{boltArea, boltTension, boltShear, boltBearing, boltUltimate, pairTension}
 use Rattle.strength.specs.Thickness.{thicknessLimit, tooThick, bothTooThick}
-use Rattle.tension.specs.Bending.{bending, extensionLength}
-use Rattle.tension.specs.Web.{webTension}
+use Rattle.stubs.specs.Bending.{bending, extensionLength}
+use Rattle.stubs.specs.Web.{webTension}
 use Rattle.tension.specs.Limits.{columnFlangeBending, endPlateBending, endPlateLimits, columnWebTension, beamWebLimits, groupLimit}
 use Rattle.compression.specs.Compression.{bearingLength, beamFlange, webBearing, bucklingLimit, webBuckling, panelShear, lesser, governingCheck}
 use Rattle.verdicts.specs.Bending.{carries}

@@ -16,9 +16,8 @@ use Rattle.allocation.specs.Allocation.{allocated}
 use Rattle.strength.specs.Steel.{steelStrength}
 use Rattle.strength.specs.Bolt.{boltUltimate}
 use Rattle.strength.specs.Thickness.{thicknessLimit, tooThick}
-use Rattle.tension.specs.Spacing.{effectiveEdge}
-use Rattle.tension.specs.Bending.{effectiveLength, bending}
-use Rattle.tension.specs.Web.{webTension}
+use Rattle.stubs.specs.Bending.{effectiveEdge, effectiveLength, bending}
+use Rattle.stubs.specs.Web.{webTension}
 use Rattle.compression.specs.Compression.{webBuckling}
 use Rattle.work.specs.Work.{worked}
 use Rattle.sheets.specs.Sheet.{sheetOf}

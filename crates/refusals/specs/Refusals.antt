@@ -11,7 +11,7 @@ use Rattle.arithmetic.specs.Range.{Within, _to_}
 use Rattle.arithmetic.specs.Table.{every}
 use Rattle.joint.specs.declared.Face.{Face}
 use Rattle.joint.specs.declared.Loads.{Loads}
-use Rattle.tension.specs.declared.Spacing.{Spacing}
+use Rattle.spacing.specs.declared.Spacing.{Spacing}
 
 -- 11 'a lever not below the one above it' is what makes it false
 abbrev pub belowAbove : (levers : List ℕ) (row lever : ℕ) → Bool

@@ -10,7 +10,7 @@ ghost use Rattle.refusals.specs.Cap.{capCase};
 use joint::AxialForce;
 use joint::Face;
 use joint::Loads;
-use tension::Spacing;
+use spacing::Spacing;
 
 // The tension cap in newtons, or that N is above the governing force.
 pub enum Cap {

@@ -16,37 +16,16 @@ use Rattle.strength.specs.Steel.{steelStrengths}
 use Rattle.strength.specs.Bolt.{pairTension}
 use Rattle.strength.specs.declared.SteelStrengths.{SteelStrengths}
 use Rattle.strength.proofs.Ranges.{steel-in-range, bolt-in-range}
-use Rattle.tension.specs.Spacing.{spacingOf}
-use Rattle.tension.specs.Bending.{extensionLength}
-use Rattle.tension.specs.Dimensions.{stubOf, lengthsOf, dimensionsOf, plateSideBy, StubParts, StubWithin, LengthsWithin, DimensionsWithin}
+use Rattle.spacing.specs.Spacing.{spacingOf}
+use Rattle.spacing.specs.declared.Spacing.{Spacing}
+use Rattle.stubs.specs.Worked.{StubParts}
+use Rattle.stubs.proofs.Sizes.{stub-within, lengths-within}
+use Rattle.tension.specs.Dimensions.{dimensionsOf, plateSideBy, DimensionsWithin}
 use Rattle.tension.specs.Admissible.{Admissible, Measured, Levers}
-use Rattle.tension.specs.declared.Spacing.{Spacing}
 use Rattle.tension.specs.declared.Dimensions.{Dimensions}
 
 pub plate-side-le : (d : Dimensions) → DimensionsWithin d → (i : ℕ) → plateSideBy d i ≤ 120000
 plate-side-le d w i = cond-le (eqb i (d .first)) _ _ 120000 (w .near-flange .high) (omega (arith, w .plate-lengths .side .high))
-
-pub stub-within : (m edge t y W : ℕ) → StubParts m edge t y W → StubWithin (stubOf m (min edge (5 * m / 4)) t y W)
-stub-within m edge t y W p =
-    let n : Within (0 to 30000) (min edge (5 * m / 4)) = record { low = zero-le; high = le-trans (min-le-left _ _) (p .edge-most .high) } in
-    record {
-      flexure = p .thickness ⊗ p .thickness ⊗ p .strength;
-      yielding = exactly 100 ⊗ p .distance;
-      prying = exactly 200 ⊗ n ⊗ p .pair;
-      breaking = exactly 200 ⊗ (p .distance ⊕ n);
-    }
-
-pub lengths-within : (m e : ℕ) → Within (500 to 15000) m → Within (1000 to 30000) e → LengthsWithin (lengthsOf m e)
-lengths-within m e wm we =
-    record {
-      circular = loosen (0 to 94245) (exactly 6283 ⊗ wm ⊘ 1000) tt;
-      side = loosen (0 to 97500) (exactly 4 ⊗ wm ⊕ exactly 5 ⊗ we ⊘ 4) tt;
-    }
-
--- the plate's width ends the extension row's length
-pub extension-length-le : (mx edge e g bp : ℕ) → extensionLength mx edge e g bp ≤ 5 * bp
-unfolding extensionLength
-extension-length-le mx edge e g bp = min-le-right _ _
 
 -- The distances and strengths of a joint that refusals 10 to 13 let pass.
 pub record Sizes (joint : Joint) (spacing : Spacing) (steel : SteelStrengths) (pair : ℕ) : Type 0 where

@@ -15,26 +15,17 @@ use Rattle.joint.specs.declared.Face.{Face}
 use Rattle.joint.specs.declared.Joint.{Joint}
 use Rattle.strength.specs.Steel.{steelStrength}
 use Rattle.strength.specs.declared.SteelStrengths.{SteelStrengths}
-use Rattle.tension.specs.Bending.{leastOf, extensionLength, bending}
-use Rattle.tension.specs.Spacing.{rise}
-use Rattle.tension.specs.Web.{webTension}
+use Rattle.spacing.specs.Spacing.{rise}
+use Rattle.spacing.specs.declared.Spacing.{Spacing}
+use Rattle.stubs.specs.Bending.{leastOf, extensionLength, bending}
+use Rattle.stubs.specs.Web.{webTension}
+use Rattle.stubs.specs.Worked.{stubOf, lengthBy, bendingBy, webBy}
+use Rattle.stubs.specs.declared.Stub.{Stub}
+use Rattle.stubs.proofs.Same.{bending-worked, web-worked}
 use Rattle.tension.specs.Limits.{rowsIn, columnFlangeBending, extensionBending, endPlateBending, endPlateLimits, columnWebTension, beamWebLimits, groupLimit}
-use Rattle.tension.specs.Dimensions.{stubOf, dimensionsOf, lengthBy, bendingBy, webBy, columnBy, plateSideBy, plateBy, websBy, limitBy, DimensionsWithin}
+use Rattle.tension.specs.Dimensions.{dimensionsOf, columnBy, plateSideBy, plateBy, websBy, limitBy, DimensionsWithin}
 use Rattle.tension.specs.Admissible.{Measured}
-use Rattle.tension.specs.declared.Spacing.{Spacing}
-use Rattle.tension.specs.declared.Stub.{Stub}
 use Rattle.tension.specs.declared.Dimensions.{Dimensions}
-
-pub bending-worked : (m n t y W k L : ℕ) → bendingBy (stubOf m n t y W) W k L ≡ bending m n t y W k L
-unfolding bendingBy bending
-bending-worked m n t y W k L =
-    let flexure : L * (t * t * y) ≡ L * (t * t) * y = sym (mul-assoc L (t * t) y) in
-    let prying : k * (200 * n * W) ≡ 200 * n * k * W = mul-comm k (200 * n * W) ∙ mul-right-comm (200 * n) W k in
-    rw (flexure, prying)
-
-web-worked : (g s t y : ℕ) → webBy (173 * g) s (t * y) ≡ webTension g s t y
-unfolding webTension
-web-worked g s t y = ap (λ p. p / 10000) (sym (mul-assoc (173 * g + 100 * s) t y))
 
 -- the limits that apply, counted one after the other
 abbrev counted : (above alone below : Bool) (flange extension plate column beam : ℕ) → ℕ

@@ -10,8 +10,8 @@ use Rattle.strength.specs.Steel.{steelStrengths}
 use Rattle.strength.specs.Bolt.{pairTension}
 use Rattle.strength.specs.declared.SteelStrengths.{SteelStrengths}
 use Rattle.sharing.specs.Groups.{Table, listed}
-use Rattle.tension.specs.Spacing.{columnM, plateM, columnEdge, plateEdge, extensionM, spacingOf}
-use Rattle.tension.specs.declared.Spacing.{Spacing}
+use Rattle.spacing.specs.Spacing.{columnM, plateM, columnEdge, plateEdge, extensionM, spacingOf}
+use Rattle.spacing.specs.declared.Spacing.{Spacing}
 
 -- What refusals 10 to 13 leave.
 pub record Admissible (joint : Joint) : Type 0 where

@@ -10,9 +10,9 @@ use Rattle.joint.specs.declared.Bolts.{Bolts}
 use Rattle.joint.specs.declared.Face.{Face}
 use Rattle.strength.specs.Steel.{steelStrength}
 use Rattle.strength.specs.Bolt.{pairTension}
-use Rattle.tension.specs.Spacing.{columnM, plateM, columnEdge, plateEdge, extensionM, effectiveEdge, rise}
-use Rattle.tension.specs.Bending.{leastOf, effectiveLength, effectiveLengthNearFlange, extensionLength, bending}
-use Rattle.tension.specs.Web.{webTension}
+use Rattle.spacing.specs.Spacing.{columnM, plateM, columnEdge, plateEdge, extensionM, rise}
+use Rattle.stubs.specs.Bending.{leastOf, effectiveEdge, effectiveLength, effectiveLengthNearFlange, extensionLength, bending}
+use Rattle.stubs.specs.Web.{webTension}
 
 -- 'k is its number of rows'
 abbrev pub rowsIn : ℕ → ℕ → ℕ

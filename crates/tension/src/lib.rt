@@ -6,50 +6,21 @@ ghost use mathlib.Core.Bool.{cond};
 ghost use lib.Dec.{eqb};
 ghost use lib.ListN.{getD, replicate};
 ghost use Rattle.arithmetic.specs.Range.{Within, _to_};
-ghost use Rattle.tension.specs.Spacing.{spacingOf};
 ghost use Rattle.tension.specs.Limits.{extensionBending, rowsIn, groupLimit};
 ghost use Rattle.tension.specs.Admissible.{Admissible, Measured, Levers, Filled};
-ghost use Rattle.tension.specs.Bending.{extensionLength};
-ghost use Rattle.tension.specs.Dimensions.{stubOf, lengthsOf, lengthBy, bendingBy, webBy, columnBy, plateSideBy, plateBy, websBy, limitBy, dimensionsOf, StubParts, StubWithin, DimensionsWithin};
+ghost use Rattle.tension.specs.Dimensions.{columnBy, plateSideBy, plateBy, websBy, limitBy, dimensionsOf, DimensionsWithin};
 use arithmetic::least;
-use joint::Column;
-use joint::Face;
 use joint::Joint;
+use spacing::Spacing;
 use strength::SteelStrengths;
-
-// Distances about the bolts.
-pub struct Spacing {
-    // column m
-    pub column: u64,
-    // plate m
-    pub plate: u64,
-    // column e
-    pub column_edge: u64,
-    // plate e
-    pub plate_edge: u64,
-    // mx, of an extended plate
-    pub extension: u64,
-}
-
-// The column flange or the end plate as a T-stub: what of its bending hangs on no group.
-pub struct Stub {
-    // t²y
-    pub flexure: u64,
-    // 100m
-    pub yielding: u64,
-    // 200n'W
-    pub prying: u64,
-    // 200(m + n')
-    pub breaking: u64,
-}
-
-// The yield-line lengths of one row.
-pub struct Lengths {
-    // 6283m÷1000
-    pub circular: u64,
-    // 4m + 5e÷4
-    pub side: u64,
-}
+use stubs::Lengths;
+use stubs::Stub;
+use stubs::bending;
+use stubs::effective_length;
+use stubs::extension_length;
+use stubs::lengths_of;
+use stubs::stub_of;
+use stubs::web_tension;
 
 // What is the same for all of a joint's groups.
 pub struct Dimensions {
@@ -72,127 +43,12 @@ pub struct Dimensions {
     pub first: usize,
 }
 
-pub fn spacing_of(column: Column, face: Face) -> Spacing
-    ensures { λ r. ⌜ r ≡ spacingOf column face ⌝ }
-{
-    let levers = face.levers;
-    let gauge = face.layout.gauge;
-    Spacing {
-        column: bolt_distance(gauge, column.web, column.root),
-        plate: bolt_distance(gauge, face.beam.web, face.welds.web),
-        column_edge: edge_distance(column.width, gauge),
-        plate_edge: edge_distance(face.plate.width, gauge),
-        extension: extension_distance(
-            levers[0],
-            face.beam.flange,
-            face.beam.depth,
-            face.welds.flange,
-        ),
-    }
-}
-
-// m, from a bolt to the root or the weld at the web.
-fn bolt_distance(gauge: u32, web: u32, corner: u32) -> u64
-    ensures { λ r. ⌜ r ≡ 5 * (gauge - web) - 8 * corner ⌝ }
-{
-    over(5 * (gauge as u64), 5 * (web as u64) + 8 * (corner as u64))
-}
-
-// e, from a bolt to the edge.
-fn edge_distance(width: u32, gauge: u32) -> u64
-    ensures { λ r. ⌜ r ≡ 5 * (width - gauge) ⌝ }
-{
-    over(5 * (width as u64), 5 * (gauge as u64))
-}
-
-// mx, from the extension row to the weld on the beam flange.
-fn extension_distance(lever: u32, flange: u32, depth: u32, weld: u32) -> u64
-    ensures { λ r. ⌜ r ≡ 5 * (2 * lever + flange - 2 * depth) - 8 * weld ⌝ }
-{
-    over(
-        10 * (lever as u64) + 5 * (flange as u64),
-        10 * (depth as u64) + 8 * (weld as u64),
-    )
-}
-
-// a less b, 0 where that is below 0.
-fn over(a: u64, b: u64) -> u64
-    ensures { λ r. ⌜ r ≡ a - b ⌝ }
-{
-    if a < b { 0 } else { a - b }
-}
-
-// The T-stub of a flange or plate, from m, the edge distance that n' is at most, thickness, strength and W.
-fn stub_of(m: u64, edge: u64, thickness: u32, strength: u64, pair: u64) -> Stub
-    requires { ⌜ StubParts m edge thickness strength pair ⌝ }
-    ensures { λ r. ⌜ r ≡ stubOf m (min edge (5 * m / 4)) thickness strength pair ⌝ }
-{
-    let effective = least(edge, 5 * m / 4);
-    let t = thickness as u64;
-    Stub {
-        flexure: t * t * strength,
-        yielding: 100 * m,
-        prying: 200 * effective * pair,
-        breaking: 200 * (m + effective),
-    }
-}
-
 // A field times a figure.
 fn times(a: u32, b: u64) -> u64
     requires { ⌜ Within (0 to 3000) a × Within (0 to 15000) b ⌝ }
     ensures { λ r. ⌜ r ≡ a * b ⌝ }
 {
     (a as u64) * b
-}
-
-fn lengths_of(m: u64, edge: u64) -> Lengths
-    requires { ⌜ Within (500 to 15000) m × Within (1000 to 30000) edge ⌝ }
-    ensures { λ r. ⌜ r ≡ lengthsOf m edge ⌝ }
-{
-    Lengths {
-        circular: 6283 * m / 1000,
-        side: 4 * m + 5 * edge / 4,
-    }
-}
-
-// The smaller of two patterns for a group, with its rise.
-fn effective_length(circular: u64, side: u64, rise: u64) -> u64
-    requires { ⌜ (circular ≤ 120000) × (side ≤ 120000) × (rise ≤ 20000) ⌝ }
-    ensures { λ r. ⌜ r ≡ lengthBy circular side rise ⌝ }
-{
-    least(circular + 20 * rise, side + 10 * rise)
-}
-
-// The least of the three modes of a T-stub, for some rows and an effective length.
-fn bending(stub: Stub, pair: u64, rows: u64, length: u64) -> u64
-    requires { ⌜ StubWithin stub ⌝ }
-    requires { ⌜ Within (0 to 785400) pair × Within (0 to 8) rows × Within (0 to 520000) length ⌝ }
-    ensures { λ r. ⌜ r ≡ bendingBy stub pair rows length ⌝ }
-{
-    let flexure = length * stub.flexure;
-    let mode1 = flexure / stub.yielding;
-    let mode2 = (flexure + rows * stub.prying) / stub.breaking;
-    least(least(mode1, mode2), rows * pair)
-}
-
-// The least of seven patterns about the extension row.
-fn extension_length(m: u64, edge: u32, plate_edge: u64, gauge: u32, width: u32) -> u64
-    requires { ⌜ (m ≤ 202500) × (edge ≤ 2000) × («plate_edge» ≤ 30000) × (gauge ≤ 3000) × (width ≤ 6000) ⌝ }
-    ensures { λ r. ⌜ r ≡ extensionLength m edge «plate_edge» gauge width ⌝ }
-{
-    let half_circle = 6283 * m / 2000;
-    let end = 10 * (edge as u64);
-    let g = gauge as u64;
-    let corner = 2 * m + 5 * end / 8;
-    let circles = least(
-        least(6283 * m / 1000, half_circle + 10 * g),
-        half_circle + 2 * plate_edge,
-    );
-    let ends = least(
-        least(least(circles, 4 * m + 5 * end / 4), corner + plate_edge),
-        corner + 5 * g,
-    );
-    least(ends, 5 * (width as u64))
 }
 
 // The bending limit of a group's column flange.
@@ -232,14 +88,6 @@ fn with_plate(d: Dimensions, row: usize, rows: u64, rise: u64, limit: u64) -> u6
     let circular = d.plate_lengths.circular;
     let length = effective_length(circular, plate_side(d, row), rise);
     least(limit, bending(d.plate, d.pair, rows, length))
-}
-
-// A web's tension: 173g, the rise, and the web's thickness times its strength.
-fn web_tension(gauge: u64, rise: u64, web: u64) -> u64
-    requires { ⌜ Within (0 to 519000) gauge × Within (0 to 20000) rise × Within (0 to 142000) web ⌝ }
-    ensures { λ r. ⌜ r ≡ webBy gauge rise web ⌝ }
-{
-    (gauge + 100 * rise) * web / 10000
 }
 
 // A limit with the webs'.

@@ -11,9 +11,9 @@ use Rattle.joint.specs.InRange.{InRange}
 use Rattle.joint.specs.declared.Joint.{Joint}
 use Rattle.strength.specs.Bolt.{boltStrengths}
 use Rattle.strength.specs.Thickness.{bothTooThick}
-use Rattle.tension.specs.Spacing.{spacingOf}
+use Rattle.spacing.specs.Spacing.{spacingOf}
 use Rattle.tension.specs.Admissible.{Admissible}
-use Rattle.tension.specs.declared.Spacing.{Spacing}
+use Rattle.spacing.specs.declared.Spacing.{Spacing}
 use Rattle.compression.specs.Compression.{forceOf}
 use Rattle.outcome.specs.declared.Outcome.{Outcome}
 use Rattle.refusals.specs.Refusals.{leversFall, rowsInPlace, tooTight, overCompressed}

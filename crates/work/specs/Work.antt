@@ -12,7 +12,7 @@ use Rattle.sharing.specs.Sharing.{newtonMetres}
 use Rattle.allocation.specs.Allocation.{eightPlaces}
 use Rattle.strength.specs.Bolt.{boltStrengths}
 use Rattle.strength.specs.Thickness.{bothTooThick}
-use Rattle.tension.specs.Spacing.{spacingOf}
+use Rattle.spacing.specs.Spacing.{spacingOf}
 use Rattle.compression.specs.Compression.{forceOf}
 use Rattle.compression.specs.declared.CompressionCheck.the-variants.{Flange}
 use Rattle.refusals.specs.Refusals.{leversFall, rowsInPlace, tooTight, overCompressed}

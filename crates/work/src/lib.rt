@@ -8,7 +8,7 @@ ghost use Rattle.strength.specs.Bolt.{boltStrengths};
 ghost use Rattle.sharing.specs.Groups.{joined};
 ghost use Rattle.sharing.specs.Sharing.{shared};
 ghost use Rattle.allocation.specs.Allocation.{eightPlaces};
-ghost use Rattle.tension.specs.Spacing.{spacingOf};
+ghost use Rattle.spacing.specs.Spacing.{spacingOf};
 ghost use Rattle.tension.specs.Admissible.{Admissible, Measured};
 ghost use Rattle.verdicts.specs.Tally.{tallyOf};
 ghost use Rattle.work.specs.Joint.{rowsOf, leversOf, limitOf, steelOf, governingOf, capOf, forcesOf, verdictsOf};
@@ -23,7 +23,7 @@ use outcome::Verdicts;
 use refusals::Cap;
 use strength::BoltStrengths;
 use strength::SteelStrengths;
-use tension::Spacing;
+use spacing::Spacing;
 use verdicts::Tally;
 
 pub fn work(joint: Joint) -> Outcome
@@ -71,7 +71,7 @@ fn work_levers(joint: Joint) -> Outcome
     if !refusals::rows_in_place(face) {
         return refused(12, 0);
     }
-    let spacing = tension::spacing_of(joint.column, face);
+    let spacing = spacing::spacing_of(joint.column, face);
     if refusals::too_tight(face.extended, spacing) {
         return refused(13, 0);
     }

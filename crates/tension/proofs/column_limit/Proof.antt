@@ -1,6 +1,7 @@
 -- `column_limit` meets its contract: the effective length, and bending over it. Assumes nothing.
 use mathlib.Core.Path.{_≡_, refl, sym, ap, _∙_}
-use Rattle.tension.specs.Dimensions.{bendingBy, columnBy}
+use Rattle.stubs.specs.Worked.{bendingBy}
+use Rattle.tension.specs.Dimensions.{columnBy}
 use borrow.Author.Needs.{needs}
 use Rattle.tension.proofs.column_limit.Statement.{statement}
 use Rattle.tension.proofs.column_limit.Tie as tie

@@ -5,7 +5,8 @@ use native.Mathlib.Nat.{mul-comm}
 use native.Mathlib.Omega.{arith}
 use Rattle.arithmetic.specs.Range.{Within, _to_}
 use Rattle.arithmetic.proofs.Bounds.{loosen, exactly}
-use Rattle.tension.specs.Dimensions.{lengthsOf, dimensionsOf}
+use Rattle.stubs.specs.Worked.{lengthsOf}
+use Rattle.tension.specs.Dimensions.{dimensionsOf}
 use Rattle.tension.proofs.Sizes.{sizes, column-parts, plate-parts}
 use Rattle.tension.proofs.Worked.{column-stub, plate-stub}
 use borrow.Author.Needs.{needs}

@@ -5,8 +5,9 @@ use native.Mathlib.Omega.{arith}
 use borrow.Author.Tests.{eq-eqb, ne-eqb}
 use Rattle.arithmetic.specs.Range.{Within, _to_}
 use Rattle.arithmetic.proofs.Bounds.{loosen, exactly}
-use Rattle.tension.specs.Bending.{extensionLength}
-use Rattle.tension.proofs.Sizes.{stub-within, sizes, edge-field-le, extension-parts, extension-length-le}
+use Rattle.stubs.specs.Bending.{extensionLength}
+use Rattle.stubs.proofs.Sizes.{stub-within, extension-length-le}
+use Rattle.tension.proofs.Sizes.{sizes, edge-field-le, extension-parts}
 use Rattle.tension.proofs.Worked.{extension-worked}
 use Rattle.tension.proofs.extension_limit.Statement.{statement}
 use Rattle.tension.proofs.extension_limit.Tie as tie

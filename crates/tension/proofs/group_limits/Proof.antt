@@ -1,6 +1,6 @@
 -- `group_limits` meets its contract: the table agrees with the figures' limits, and those are document 01's. Assumes nothing.
 use mathlib.Core.Path.{_≡_, refl, sym, ap, _∙_}
-use Rattle.tension.specs.Spacing.{rise}
+use Rattle.spacing.specs.Spacing.{rise}
 use Rattle.tension.specs.Limits.{rowsIn}
 use Rattle.tension.specs.Dimensions.{limitBy}
 use Rattle.tension.proofs.Sizes.{levers-of, dimensions-within}

@@ -4,7 +4,8 @@ use mathlib.Core.Path.{_≡_, refl, sym, ap, _∙_}
 use Prim.Native.Nat.{ℕ, min}
 use native.Mathlib.Omega.{arith}
 use borrow.Author.Tests.{lt-ltb, le-ltb, eq-eqb, ne-eqb}
-use Rattle.tension.specs.Dimensions.{bendingBy, lengthBy, plateBy}
+use Rattle.stubs.specs.Worked.{bendingBy, lengthBy}
+use Rattle.tension.specs.Dimensions.{plateBy}
 use borrow.Author.Needs.{needs}
 use Rattle.tension.proofs.with_plate.Statement.{statement}
 use Rattle.tension.proofs.with_plate.Tie as tie

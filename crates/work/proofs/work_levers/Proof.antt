@@ -5,7 +5,7 @@ use native.Mathlib.Omega.{arith}
 use mathlib.Core.Bool.{Bool, true, false}
 use borrow.Author.Tests.{not-false}
 use Rattle.joint.proofs.InRange.{lever-most}
-use Rattle.tension.specs.Spacing.{spacingOf}
+use Rattle.spacing.specs.Spacing.{spacingOf}
 use Rattle.tension.specs.Admissible.{Admissible}
 use Rattle.refusals.specs.Refusals.{leversFall, tooTight}
 use Rattle.work.specs.Demand.{Demand3}

@@ -1,12 +1,12 @@
 -- Distances about the bolts, in hundredths of a millimetre (document 01, 'Group limits' and refusal 13).
 -- A difference below 0 is 0 here: refusal 13 turns both down, and where it lets a joint pass the two are the same.
 -- Assumes nothing.
-use Prim.Native.Nat.{ℕ, _+_, _-_, _*_, _/_, min}
+use Prim.Native.Nat.{ℕ, _+_, _-_, _*_}
 use lib.ListN.{getD}
 use Rattle.joint.specs.declared.Column.{Column}
 use Rattle.joint.specs.declared.Layout.{Layout}
 use Rattle.joint.specs.declared.Face.{Face}
-use Rattle.tension.specs.declared.Spacing.{Spacing}
+use Rattle.spacing.specs.declared.Spacing.{Spacing}
 
 -- 'Column m = 5(g − tc) − 8rc'
 abbrev pub columnM : Column → Layout → ℕ
@@ -27,10 +27,6 @@ plateEdge face = 5 * (face .plate .width - face .layout .gauge)
 -- 'mx = 5(2h − 2Db + Tb) − 8sf', h of the extension row
 abbrev pub extensionM : Face → ℕ
 extensionM face = 5 * (2 * getD (face .levers) 0 0 + face .beam .flange - 2 * face .beam .depth) - 8 * face .welds .flange
-
--- 'n' is the least of column e, plate e and 5m÷4.'
-abbrev pub effectiveEdge : (columnEdge plateEdge m : ℕ) → ℕ
-effectiveEdge columnEdge plateEdge m = min (min columnEdge plateEdge) (5 * m / 4)
 
 -- 's = h of row i less h of row j'
 abbrev pub rise : Face → ℕ → ℕ → ℕ

@@ -1,8 +1,8 @@
 -- `web_tension` meets its contract: the product fits. Assumes nothing.
 use Rattle.arithmetic.proofs.Bounds.{exactly, _⊗_, _⊕_, _⊘_, fits}
 use borrow.Author.Needs.{needs}
-use Rattle.tension.proofs.web_tension.Statement.{statement}
-use Rattle.tension.proofs.web_tension.Tie as tie
+use Rattle.stubs.proofs.web_tension.Statement.{statement}
+use Rattle.stubs.proofs.web_tension.Tie as tie
 
 mul-result : tie.Need-mul-result
 mul-result c = search needs

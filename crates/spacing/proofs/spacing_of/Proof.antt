@@ -1,7 +1,7 @@
 -- `spacing_of` meets its contract, distance by distance. Assumes nothing.
 use borrow.Author.Needs.{needs}
-use Rattle.tension.proofs.spacing_of.Statement.{statement}
-use Rattle.tension.proofs.spacing_of.Tie as tie
+use Rattle.spacing.proofs.spacing_of.Statement.{statement}
+use Rattle.spacing.proofs.spacing_of.Tie as tie
 
 bolt-distance-requires : tie.Need-bolt-distance-requires
 bolt-distance-requires c κs = search needs

@@ -5,10 +5,10 @@ use native.Mathlib.Nat.{le-trans, min-le-left}
 use native.Mathlib.Omega.{arith}
 use Rattle.arithmetic.specs.Range.{Within, _to_}
 use Rattle.arithmetic.proofs.Bounds.{exactly, _⊗_, _⊕_, _⊘_, fits}
-use Rattle.tension.specs.Dimensions.{stubOf}
+use Rattle.stubs.specs.Worked.{stubOf}
 use borrow.Author.Needs.{needs}
-use Rattle.tension.proofs.stub_of.Statement.{statement}
-use Rattle.tension.proofs.stub_of.Tie as tie
+use Rattle.stubs.proofs.stub_of.Statement.{statement}
+use Rattle.stubs.proofs.stub_of.Tie as tie
 
 mul-least : tie.Need-mul-least
 mul-least c = search needs

@@ -1,8 +1,8 @@
 -- `extension_length` meets its contract: the seven patterns, the least so far first. Assumes nothing.
-use Rattle.tension.specs.Bending.{extensionLength}
+use Rattle.stubs.specs.Bending.{extensionLength}
 use borrow.Author.Needs.{needs}
-use Rattle.tension.proofs.extension_length.Statement.{statement}
-use Rattle.tension.proofs.extension_length.Tie as tie
+use Rattle.stubs.proofs.extension_length.Statement.{statement}
+use Rattle.stubs.proofs.extension_length.Tie as tie
 
 mul-half-circle : tie.Need-mul-half-circle
 mul-half-circle c = search needs

@@ -2,10 +2,10 @@
 use mathlib.Core.Path.{_≡_, refl, sym, ap, _∙_}
 use Prim.Native.Nat.{ℕ, min}
 use Rattle.arithmetic.proofs.Bounds.{exactly, _⊗_, _⊕_, _⊘_, fits}
-use Rattle.tension.specs.Dimensions.{bendingBy}
+use Rattle.stubs.specs.Worked.{bendingBy}
 use borrow.Author.Needs.{needs}
-use Rattle.tension.proofs.bending.Statement.{statement}
-use Rattle.tension.proofs.bending.Tie as tie
+use Rattle.stubs.proofs.bending.Statement.{statement}
+use Rattle.stubs.proofs.bending.Tie as tie
 
 mul-flexure : tie.Need-mul-flexure
 mul-flexure c = fits (c .before .pre .1 .2 ⊗ c .before .pre .0 .flexure) tt

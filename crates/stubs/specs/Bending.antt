@@ -44,6 +44,10 @@ extensionLength mx edge e g bp =
     ∷ (5 * bp)
     ∷ [])
 
+-- 'n' is the least of column e, plate e and 5m÷4.'
+abbrev pub effectiveEdge : (columnEdge plateEdge m : ℕ) → ℕ
+effectiveEdge columnEdge plateEdge m = min (min columnEdge plateEdge) (5 * m / 4)
+
 -- 'L×t²×y÷(100m)': mode 1, complete yielding of the flange
 abbrev pub mode1 : (m t y L : ℕ) → ℕ
 mode1 m t y L = L * (t * t) * y / (100 * m)

@@ -1,0 +1,70 @@
+// Distances about the bolts, in hundredths of a millimetre (document 01, 'Group limits' and refusal 13).
+ghost use mathlib.Core.Path.{_≡_};
+ghost use Prim.Native.Nat.{_+_, _-_, _*_};
+ghost use Rattle.spacing.specs.Spacing.{spacingOf};
+use joint::Column;
+use joint::Face;
+
+// A difference below 0 is 0: refusal 13 turns both down.
+pub struct Spacing {
+    // column m
+    pub column: u64,
+    // plate m
+    pub plate: u64,
+    // column e
+    pub column_edge: u64,
+    // plate e
+    pub plate_edge: u64,
+    // mx, of an extended plate
+    pub extension: u64,
+}
+
+pub fn spacing_of(column: Column, face: Face) -> Spacing
+    ensures { λ r. ⌜ r ≡ spacingOf column face ⌝ }
+{
+    let levers = face.levers;
+    let gauge = face.layout.gauge;
+    Spacing {
+        column: bolt_distance(gauge, column.web, column.root),
+        plate: bolt_distance(gauge, face.beam.web, face.welds.web),
+        column_edge: edge_distance(column.width, gauge),
+        plate_edge: edge_distance(face.plate.width, gauge),
+        extension: extension_distance(
+            levers[0],
+            face.beam.flange,
+            face.beam.depth,
+            face.welds.flange,
+        ),
+    }
+}
+
+// m, from a bolt to the root or the weld at the web.
+fn bolt_distance(gauge: u32, web: u32, corner: u32) -> u64
+    ensures { λ r. ⌜ r ≡ 5 * (gauge - web) - 8 * corner ⌝ }
+{
+    over(5 * (gauge as u64), 5 * (web as u64) + 8 * (corner as u64))
+}
+
+// e, from a bolt to the edge.
+fn edge_distance(width: u32, gauge: u32) -> u64
+    ensures { λ r. ⌜ r ≡ 5 * (width - gauge) ⌝ }
+{
+    over(5 * (width as u64), 5 * (gauge as u64))
+}
+
+// mx, from the extension row to the weld on the beam flange.
+fn extension_distance(lever: u32, flange: u32, depth: u32, weld: u32) -> u64
+    ensures { λ r. ⌜ r ≡ 5 * (2 * lever + flange - 2 * depth) - 8 * weld ⌝ }
+{
+    over(
+        10 * (lever as u64) + 5 * (flange as u64),
+        10 * (depth as u64) + 8 * (weld as u64),
+    )
+}
+
+// a less b, 0 where that is below 0.
+fn over(a: u64, b: u64) -> u64
+    ensures { λ r. ⌜ r ≡ a - b ⌝ }
+{
+    if a < b { 0 } else { a - b }
+}

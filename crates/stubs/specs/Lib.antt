@@ -1,0 +1,3 @@
+pub mod Bending
+pub mod Web
+pub mod Worked
