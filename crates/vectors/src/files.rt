@@ -12,19 +12,20 @@ use fields::fields_of;
 use joint::Joint;
 use jointfile::Written;
 
-// The part after the first joint is the last `left` bytes.
-fn is_rest(vector: u64, file: &[u8], left: u64) -> bool {
+// The part after the first joint is the last `left` bytes, and `next` is where it begins.
+fn is_rest(vector: u64, file: &[u8], next: usize, left: u64) -> bool {
     let left = left as usize;
     if file.len() < left {
         return bad_record(vector);
     }
     let from = file.len() - left;
-    are_bytes(vector, jointfile::rest(file), &file[from..])
+    is_item(vector, 2, next as u64, from as u64)
+        & are_bytes(vector, jointfile::rest(file), &file[from..])
 }
 
 // The refusal and the part after the joint.
-fn is_reading(vector: u64, file: &[u8], refusal: u32, should: &[u64; 2]) -> bool {
-    is_item(vector, 1, refusal as u64, should[0]) & is_rest(vector, file, should[1])
+fn is_reading(vector: u64, file: &[u8], refusal: u32, next: usize, should: &[u64; 2]) -> bool {
+    is_item(vector, 1, refusal as u64, should[0]) & is_rest(vector, file, next, should[1])
 }
 
 fn are_levers(vector: u64, are: [u32; 8], should: &[u32; 8]) -> bool {
@@ -55,7 +56,7 @@ pub fn run_read(vector: u64, bytes: &[u8]) -> bool {
     let file = &bytes[from..];
     let reading = jointfile::read(file);
     is_joint(vector, reading.joint, &fields, &levers)
-        & is_reading(vector, file, reading.refusal, &should)
+        & is_reading(vector, file, reading.refusal, reading.next, &should)
 }
 
 // The length, or the refusal.

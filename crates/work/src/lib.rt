@@ -21,9 +21,9 @@ use joint::Joint;
 use outcome::Outcome;
 use outcome::Verdicts;
 use refusals::Cap;
+use spacing::Spacing;
 use strength::BoltStrengths;
 use strength::SteelStrengths;
-use spacing::Spacing;
 use verdicts::Tally;
 
 pub fn work(joint: Joint) -> Outcome
