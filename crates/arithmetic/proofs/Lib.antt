@@ -2,3 +2,4 @@ pub mod Bounds
 pub mod Table
 pub mod Greatest
 pub mod Store
+pub mod Tests

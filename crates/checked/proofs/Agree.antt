@@ -25,8 +25,9 @@ use Rattle.verdicts.specs.Welds.{topRows, flangeWeldBy, webWeldPasses}
 use Rattle.refusals.specs.Refusals.{leversFall, rowsInPlace, tooTight, overCompressed}
 use Rattle.work.specs.Joint.{governingOf, capOf, forcesOf}
 use Rattle.work.specs.Work.{resultOf, fromThickness, fromLevers, worked}
-use Rattle.line.specs.Digits.{digits}
-use Rattle.line.specs.Line.{spaced, resultLine, refusalLine, outcomeLine}
+use Rattle.items.specs.Digits.{digits}
+use Rattle.items.specs.Items.{spaced}
+use Rattle.line.specs.Line.{resultLine, refusalLine, outcomeLine}
 use Rattle.sheets.specs.Sheet.{linesWithin, sheetLines, joined as lines}
 use Rattle.checked.specs.Checked.{Checked, table}
 

@@ -10,10 +10,11 @@ use borrow.Author.Tests.{leb-true, le-leb}
 use lib.Dec.{leb}
 use lib.ListN.{length, getD, drop, length-append}
 use lib.Seq.{sets, sets-eq}
+use Rattle.buffers.specs.Put.{Put}
+use Rattle.buffers.proofs.Puts.{sets-append}
 use Rattle.numbers.specs.Number.{stored}
-use Rattle.numbers.specs.Run.{storedAll, Put}
+use Rattle.numbers.specs.Run.{storedAll}
 use Rattle.numbers.proofs.Codec.{groups-last}
-use Rattle.numbers.proofs.Puts.{sets-append}
 use Rattle.numbers.proofs.Sizes.{storedAll-short}
 use Rattle.jointfile.specs.Write.{turnedDown, placed}
 

@@ -11,6 +11,7 @@ use lib.Dec.{leb, eqb}
 use lib.ListN.{length, getD, take, drop, replicate, length-append, length-take, length-drop, take-append-drop, List·getD-eq-default, length-replicate}
 use lib.Seq.{getD-take, length-take-le, take-at, drop-at}
 use Rattle.arithmetic.specs.Range.{within}
+use Rattle.arithmetic.proofs.Tests.{split}
 use Rattle.joint.specs.Ranges.{rowCounts}
 use Rattle.joint.specs.declared.Joint.{Joint}
 use Rattle.numbers.specs.Run.{readNumbers, storedAll, allZero}
@@ -19,7 +20,6 @@ use Rattle.numbers.specs.Number.{stored, readNumber, Bytes}
 use Rattle.numbers.proofs.RunCodec.{read-storedAll, after-got, bytes-left, TakenAll, taken-all}
 use Rattle.numbers.proofs.Codec.{read-stored, stored-read, number-small}
 use Rattle.numbers.proofs.Sizes.{storedAll-append}
-use Rattle.numbers.proofs.Groups.{split}
 use Rattle.fields.specs.Fields.{jointOf, fieldsOf}
 use Rattle.fields.proofs.Order.{fields-joint, joint-fields}
 use Rattle.jointfile.specs.File.{eight, readOthers, readJoint}

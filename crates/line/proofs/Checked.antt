@@ -5,8 +5,9 @@ use mathlib.Core.List.{List, [], _∷_}
 use lib.ListN.{replicate}
 use Rattle.compression.specs.declared.CompressionCheck.the-variants.{Buckling}
 use Rattle.outcome.specs.declared.Outcome.{Outcome}
-use Rattle.line.specs.Digits.{digits}
-use Rattle.line.specs.Line.{spaced, resultLine, outcomeLine}
+use Rattle.items.specs.Digits.{digits}
+use Rattle.items.specs.Items.{spaced}
+use Rattle.line.specs.Line.{resultLine, outcomeLine}
 
 abbrev outcome-of-I : Outcome
 outcome-of-I = record {

@@ -11,12 +11,13 @@ use lib.Dec.{leb, eqb}
 use lib.ListN.{length, take, drop, length-append, length-take}
 use lib.Seq.{sets, sets-eq}
 use Rattle.outcome.specs.declared.Outcome.{Outcome}
-use Rattle.line.specs.Digits.{decimal}
-use Rattle.line.specs.Line.{spaced, letter, lettersOf, figuresOf, rowForces, resultLine, refusalLine, toldOf, outcomeLine, placedTo, noRoom, placed}
-use Rattle.numbers.specs.Run.{Put}
-use Rattle.numbers.proofs.Groups.{split}
-use Rattle.line.proofs.Numerals.{decimal-short}
-use Rattle.line.proofs.Puts.{items, items-append, items-short, letters-size, spaced-append}
+use Rattle.arithmetic.proofs.Tests.{split}
+use Rattle.buffers.specs.Put.{Put}
+use Rattle.items.specs.Digits.{decimal}
+use Rattle.items.specs.Items.{spaced, letter}
+use Rattle.items.proofs.Numerals.{decimal-short}
+use Rattle.items.proofs.Items.{items, items-append, items-short, letters-size, spaced-append}
+use Rattle.line.specs.Line.{lettersOf, figuresOf, rowForces, resultLine, refusalLine, toldOf, outcomeLine, placedTo, noRoom, placed}
 
 pub room : (end at size : ℕ) → at ≤ end → leb size (end - at) ≡ leb (at + size) end
 room end at size inside =

@@ -8,21 +8,10 @@ use lib.ListN.{length, take, drop}
 use Rattle.compression.specs.declared.CompressionCheck.{CompressionCheck}
 use Rattle.compression.specs.declared.CompressionCheck.the-variants.{Flange, Bearing, Buckling, Panel}
 use Rattle.outcome.specs.declared.Outcome.{Outcome}
-use Rattle.line.specs.Digits.{decimal}
+use Rattle.items.specs.Digits.{decimal}
+use Rattle.items.specs.Items.{Item, letter, spaced}
 use Rattle.line.specs.declared.Written.{Written}
 use Rattle.line.specs.declared.Written.the-variants.{Next, NoRoom}
-
--- an item of a line, as text
-abbrev pub Item : Type 0
-Item = List ℕ
-
-abbrev pub letter : ℕ → Item
-letter byte = byte ∷ []
-
--- 'One space parts the items of a line': a space before each item after the first.
-unfoldable pub spaced : List Item → List ℕ
-spaced [] = []
-spaced (item ∷ items) = 32 ∷ (item ++ spaced items)
 
 -- A line ends with one line feed.
 abbrev pub lineOf : Item → List Item → List ℕ

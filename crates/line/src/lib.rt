@@ -1,23 +1,21 @@
 // Lines of the sheet (document 01, 'Sheet program'): what working a joint came to, and what a joint that can't be read was refused for,
 // each put whole into a lent buffer or not at all.
-mod items;
-mod number;
-
 use compression::CompressionCheck;
+use items::number::digit_count;
+use items::number::put_number;
 use items::numbers_size;
 use items::put_letters;
 use items::put_numbers;
-use number::digit_count;
-use number::put_number;
 use outcome::Outcome;
 ghost use Prim.Native.Nat.{_+_, _≤_, min};
 ghost use mathlib.Core.Path.{_≡_};
 ghost use mathlib.Core.List.{[], _∷_, _++_, map};
 ghost use lib.Dec.{leb};
 ghost use lib.ListN.{length};
-ghost use Rattle.line.specs.Digits.{decimal};
-ghost use Rattle.line.specs.Line.{spaced, checkLetter, verdictLetter, lettersOf, rowForces, resultLine, refusalLine, outcomeLine, placed, writtenTold};
-ghost use Rattle.numbers.specs.Run.{Put};
+ghost use Rattle.buffers.specs.Put.{Put};
+ghost use Rattle.items.specs.Digits.{decimal};
+ghost use Rattle.items.specs.Items.{spaced};
+ghost use Rattle.line.specs.Line.{checkLetter, verdictLetter, lettersOf, rowForces, resultLine, refusalLine, outcomeLine, placed, writtenTold};
 
 // What putting a line answers: the place after it, or that there is no room for it.
 pub enum Written {

@@ -9,9 +9,9 @@ use native.Mathlib.Omega.{arith}
 use native.Mathlib.Nat.{pow-suc, one-le-pow}
 use borrow.Author.Tests.{lt-ltb, le-ltb, le-leb, lt-leb, ne-eqb, eq-eqb}
 use lib.Dec.{leb, ltb, eqb}
+use Rattle.arithmetic.proofs.Tests.{split}
 use Rattle.numbers.specs.Outcome.{Outcome, got, refused}
 use Rattle.numbers.specs.Number.{groups, stored, above, readGroups, readNumber, Bytes}
-use Rattle.numbers.proofs.Groups.{split}
 
 -- no fifth byte above 15
 not-over : (before byte : ℕ) → (4 ≤ before → byte ≤ 15) → (leb 4 before && ltb 15 byte) ≡ false

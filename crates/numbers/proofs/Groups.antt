@@ -3,15 +3,16 @@
 use Prim.Native.Nat.{ℕ, suc, _+_, _-_, _*_, _^_, _≤_, _<_}
 use mathlib.Core.Path.{_≡_, refl, sym, _∙_}
 use mathlib.Core.List.{List, _∷_}
-use mathlib.Core.Bool.{Bool, true, false, _&&_}
-use mathlib.Core.Logic.{_⊎_, inl, inr, ⊎-elim}
+use mathlib.Core.Bool.{true, false, _&&_}
+use mathlib.Core.Logic.{⊎-elim}
 use native.Mathlib.Omega.{arith}
 use native.Mathlib.Numerals.{add-one}
 use native.Mathlib.Nat.{zero-add, one-mul, add-assoc, mul-add, mul-assoc, pow-suc, mul-le-mul-left, pow-le-pow-right}
-use borrow.Author.Tests.{lt-ltb, le-ltb, le-leb, ltb-true, ltb-false}
+use borrow.Author.Tests.{lt-ltb, le-ltb, le-leb, ltb-false}
 use lib.Dec.{leb, ltb, eqb}
 use lib.ListN.{length, getD, drop, drop-of-length-le}
 use lib.Seq.{drop-cons}
+use Rattle.arithmetic.proofs.Tests.{split}
 use Rattle.numbers.specs.Outcome.{Outcome, got, refused}
 use Rattle.numbers.specs.Number.{above, readGroups, readNumber, NumberRead}
 use Rattle.numbers.specs.declared.number.Number.the-variants.{Value, Refused}
@@ -34,14 +35,6 @@ pub record Head (bytes : List ℕ) (from at scale value : ℕ) : Type 0 where
   pub scales : scale ≡ 128 ^ (at - from)
   pub small : value < scale
   pub reads : readNumber (drop from bytes) ≡ above scale value (readGroups (at - from) (drop at bytes))
-
--- one is below the other, or not
-pub split : (a b : ℕ) → (a < b) ⊎ (b ≤ a)
-split a b = go (ltb a b) refl
-  where
-    go : (t : Bool) → ltb a b ≡ t → (a < b) ⊎ (b ≤ a)
-    go true e = inl (ltb-true a b e)
-    go false e = inr (ltb-false a b e)
 
 -- the test for a fifth byte above 15 failed
 pub low-fifth : (before byte : ℕ) → (leb 4 before && ltb 15 byte) ≡ false → 4 ≤ before → byte ≤ 15

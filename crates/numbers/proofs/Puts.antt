@@ -2,16 +2,18 @@
 -- Assumes nothing.
 use Prim.Native.Nat.{ℕ, zero, suc, _+_, _*_, _/_, _%_, _^_, _≤_, _<_}
 use mathlib.Core.Path.{_≡_, refl, sym, ap, _∙_}
-use mathlib.Core.List.{List, [], _∷_, _++_}
+use mathlib.Core.List.{List, [], _++_}
 use mathlib.Core.Bool.{true, false}
 use native.Mathlib.Omega.{arith}
 use native.Mathlib.Numerals.{add-one}
-use native.Mathlib.Nat.{pow-suc, add-zero}
+use native.Mathlib.Nat.{pow-suc}
 use borrow.Author.Tests.{ne-eqb}
 use lib.ListN.{length, getD, drop, set, length-set, length-append, drop-of-length-le}
 use lib.Seq.{sets, drop-cons, length-sets}
+use Rattle.buffers.specs.Put.{Put}
+use Rattle.buffers.proofs.Puts.{sets-append}
 use Rattle.numbers.specs.Number.{groups, stored}
-use Rattle.numbers.specs.Run.{storedAll, Put, allZero}
+use Rattle.numbers.specs.Run.{storedAll, allZero}
 use Rattle.numbers.proofs.Codec.{groups-last, groups-more}
 use Rattle.numbers.proofs.Sizes.{groups-positive}
 
@@ -54,12 +56,6 @@ module _ {buffer₀ : List ℕ} {from x : ℕ} {buffer : List ℕ} {at left : �
           }
 
 -- ---- runs of numbers
-
-pub sets-append : (l : List ℕ) (i : ℕ) (xs ys : List ℕ) → sets l i (xs ++ ys) ≡ sets (sets l i xs) (i + length xs) ys
-sets-append l i [] ys = rw add-zero
-sets-append l i (x ∷ xs) ys =
-    let place : i + suc (length xs) ≡ suc i + length xs = omega arith in
-    rw place (sets-append (set l i x) (suc i) xs ys)
 
 -- the numbers from `i` on are one number and those after it
 pub stored-next : (values : List ℕ) (i : ℕ) → i < length values → storedAll (drop i values) ≡ stored (getD values i 0) ++ storedAll (drop (i + 1) values)

@@ -2,7 +2,6 @@
 -- Assumes nothing.
 use Prim.Native.Nat.{ℕ, zero, suc, _+_, _*_, _/_, _≤_, _<_}
 use mathlib.Core.Path.{_≡_, refl}
-use mathlib.Core.Bool.{Bool, true, false}
 use mathlib.Core.Logic.{_⊎_, inl, inr, ⊎-elim}
 use mathlib.Core.List.{List, [], _∷_, _++_, append-assoc}
 use native.Mathlib.Omega.{arith}
@@ -10,9 +9,9 @@ use borrow.Author.Tests.{le-leb, lt-leb}
 use lib.Dec.{leb}
 use lib.ListN.{length, length-append}
 use mir.Val.{boolByte}
+use Rattle.arithmetic.proofs.Tests.{split}
 use Rattle.numbers.specs.Number.{groups, stored}
 use Rattle.numbers.specs.Run.{storedAll}
-use Rattle.numbers.proofs.Groups.{split}
 use Rattle.numbers.proofs.Codec.{groups-last, groups-more}
 
 -- how many of `most` limits the number reaches, each 128 times the one before
@@ -50,10 +49,6 @@ pub stored-length : (x : ℕ)
     → 1 + boolByte (leb 128 x) + boolByte (leb 16384 x) + boolByte (leb 2097152 x) + boolByte (leb 268435456 x) ≡ length (stored x)
 unfolding reaches
 stored-length x = omega (arith, groups-length 4 x)
-
-pub bit-small : (b : Bool) → boolByte b ≤ 1
-bit-small true = omega arith
-bit-small false = omega arith
 
 pub groups-positive : (most x : ℕ) → 0 < length (groups (suc most) x)
 groups-positive most x = omega (arith, groups-length most x)

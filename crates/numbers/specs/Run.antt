@@ -1,12 +1,11 @@
 -- Runs of numbers (document 01, Read and Write): so many read one after another, their stored forms one after another, and what is
--- said of the code that reads, measures and puts them. Assumes nothing.
-use Prim.Native.Nat.{ℕ, zero, suc, _+_, _≤_}
+-- said of the code that reads them. Assumes nothing.
+use Prim.Native.Nat.{ℕ, zero, suc, _≤_}
 use mathlib.Core.Path.{_≡_}
 use mathlib.Core.List.{List, [], _∷_, _++_}
 use mathlib.Core.Bool.{Bool, true, _&&_}
 use lib.Dec.{eqb}
 use lib.ListN.{length, drop}
-use lib.Seq.{sets}
 use Rattle.numbers.specs.Outcome.{Outcome, got, refused, after}
 use Rattle.numbers.specs.Number.{stored, readNumber}
 use Rattle.numbers.specs.declared.run.Run.{Run}
@@ -48,8 +47,3 @@ runRefusal (Refused r) = r
 pub record RunRead (bytes : List ℕ) (from count : ℕ) (values : List ℕ) (run : Run) : Type 0 where
   pub told : runTold bytes values run ≡ readNumbers count (drop from bytes)
   pub within : from ≤ length bytes → endPlace run ≤ length bytes
-
--- Bytes put into a buffer from a place on, with the place after them.
-pub record Put (buffer : List ℕ) (from : ℕ) (bytes exit : List ℕ) (next : ℕ) : Type 0 where
-  pub place : next ≡ from + length bytes
-  pub stores : exit ≡ sets buffer from bytes

@@ -7,7 +7,8 @@ use crate::number::stored_length;
 ghost use Prim.Native.Nat.{_+_, _≤_};
 ghost use mathlib.Core.Path.{_≡_};
 ghost use lib.ListN.{length};
-ghost use Rattle.numbers.specs.Run.{RunRead, runRefusal, allZero, storedAll, Put};
+ghost use Rattle.buffers.specs.Put.{Put};
+ghost use Rattle.numbers.specs.Run.{RunRead, runRefusal, allZero, storedAll};
 
 // What reading a run answers: the place after its last number, or the refusal of the first that can't be read.
 pub enum Run {

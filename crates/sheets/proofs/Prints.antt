@@ -13,10 +13,11 @@ use lib.Seq.{sets, sets-eq, length-sets, drop-drop}
 use Rattle.numbers.specs.Number.{Bytes}
 use Rattle.jointfile.specs.File.{reading}
 use Rattle.jointfile.proofs.Places.{next-within}
-use Rattle.line.specs.Digits.{digits}
-use Rattle.line.specs.Line.{spaced, Placing, placedTo, noRoom, placed}
+use Rattle.buffers.proofs.Puts.{sets-append}
+use Rattle.items.specs.Digits.{digits}
+use Rattle.items.specs.Items.{spaced}
+use Rattle.line.specs.Line.{Placing, placedTo, noRoom, placed}
 use Rattle.line.proofs.Lines.{room, placed-put, placed-short}
-use Rattle.numbers.proofs.Puts.{sets-append}
 use Rattle.sheets.specs.Sheet.{Line, linesOf, overLong, joined, fitting, atFront, Printing, whole, cut, printing, readingLine}
 use Rattle.sheets.proofs.Walk.{bytes-drop, lines-none, lines-next, next-positive}
 

@@ -19,8 +19,8 @@ use Rattle.numbers.specs.Run.{storedAll}
 use Rattle.jointfile.specs.Write.{fileOf, file}
 use Rattle.numbers.proofs.Sizes.{groups-positive}
 use Rattle.jointfile.proofs.RoundTrip.{writes-again}
-use Rattle.line.specs.Line.{spaced}
-use Rattle.line.specs.Digits.{digits}
+use Rattle.items.specs.Digits.{digits}
+use Rattle.items.specs.Items.{spaced}
 use Rattle.line.proofs.Lines.{refusal-short, outcome-short}
 use Rattle.work.specs.Work.{worked}
 use Rattle.sheets.specs.Sheet.{Line, lineThen, linesWithin, linesOf, overLong, sheetLines, joined, sheetOf, Printing, whole, atFront, printing}

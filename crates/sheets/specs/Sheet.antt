@@ -9,8 +9,9 @@ use Rattle.joint.specs.declared.Joint.{Joint}
 use Rattle.numbers.specs.Outcome.{Outcome, got, refused}
 use Rattle.jointfile.specs.File.{readJoint}
 use Rattle.jointfile.specs.declared.Reading.{Reading}
-use Rattle.line.specs.Digits.{decimal}
-use Rattle.line.specs.Line.{letter, lineOf, refusalLine, outcomeLine}
+use Rattle.items.specs.Digits.{decimal}
+use Rattle.items.specs.Items.{letter}
+use Rattle.line.specs.Line.{lineOf, refusalLine, outcomeLine}
 use Rattle.work.specs.Work.{worked}
 use Rattle.sheets.specs.declared.Printed.{Printed}
 use Rattle.sheets.specs.declared.Printed.the-variants.{Length, NoRoom}

@@ -5,9 +5,10 @@ use mathlib.Core.List.{[], _∷_, _++_}
 use native.Mathlib.Omega.{arith}
 use denote.Ref.{now}
 use lib.ListN.{length}
-use Rattle.line.specs.Digits.{decimal}
-use Rattle.line.specs.Line.{letter}
-use Rattle.line.proofs.Puts.{items, put-both, put-byte, put-length, room-first, room-after}
+use Rattle.buffers.proofs.Puts.{put-both, put-byte, put-length, room-first, room-after}
+use Rattle.items.specs.Digits.{decimal}
+use Rattle.items.specs.Items.{letter}
+use Rattle.items.proofs.Items.{items}
 use Rattle.line.proofs.Lines.{refusal-parts}
 use borrow.Author.Needs.{needs}
 use Rattle.line.proofs.put_refusal.Statement.{statement}

@@ -4,10 +4,12 @@ use mathlib.Core.List.{[], _∷_, _++_}
 use native.Mathlib.Omega.{arith}
 use denote.Ref.{now}
 use lib.ListN.{length}
-use Rattle.line.specs.Digits.{decimal}
-use Rattle.line.specs.Line.{letter, lettersOf, figuresOf}
-use Rattle.numbers.specs.Run.{Put}
-use Rattle.line.proofs.Puts.{items, put-both, put-byte, put-length, room-first, room-after}
+use Rattle.buffers.specs.Put.{Put}
+use Rattle.buffers.proofs.Puts.{put-both, put-byte, put-length, room-first, room-after}
+use Rattle.items.specs.Digits.{decimal}
+use Rattle.items.specs.Items.{letter}
+use Rattle.items.proofs.Items.{items}
+use Rattle.line.specs.Line.{lettersOf, figuresOf}
 use Rattle.line.proofs.Lines.{opening, result-parts}
 use borrow.Author.Needs.{needs}
 use Rattle.line.proofs.put_result.Statement.{statement}

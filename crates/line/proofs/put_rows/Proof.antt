@@ -3,9 +3,10 @@ use mathlib.Core.Path.{sym}
 use mathlib.Core.List.{[], _∷_}
 use native.Mathlib.Omega.{arith}
 use lib.Seq.{length-take-le}
-use Rattle.line.specs.Digits.{decimal}
+use Rattle.buffers.proofs.Puts.{put-both, room-first, room-after}
+use Rattle.items.specs.Digits.{decimal}
+use Rattle.items.proofs.Items.{items}
 use Rattle.line.specs.Line.{rowForces}
-use Rattle.line.proofs.Puts.{items, put-both, room-first, room-after}
 use Rattle.line.proofs.Lines.{opening-parts}
 use borrow.Author.Needs.{needs}
 use Rattle.line.proofs.put_rows.Statement.{statement}

@@ -4,10 +4,10 @@ use mathlib.Core.Path.{sym, ap, _∙_}
 use native.Mathlib.Omega.{arith}
 use lib.ListN.{length, take, length-take}
 use lib.Seq.{length-take-le}
-use Rattle.line.specs.Digits.{decimal}
+use Rattle.items.specs.Digits.{decimal}
+use Rattle.items.proofs.Numerals.{decimal-short}
+use Rattle.items.proofs.Items.{items, items-first, items-short}
 use Rattle.line.specs.Line.{rowForces}
-use Rattle.line.proofs.Numerals.{decimal-short}
-use Rattle.line.proofs.Puts.{items, items-first, items-short}
 use borrow.Author.Needs.{needs}
 use Rattle.line.proofs.rows_size.Statement.{statement}
 use Rattle.line.proofs.rows_size.Tie as tie

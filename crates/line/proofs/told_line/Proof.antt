@@ -7,8 +7,8 @@ use denote.Ref.{now}
 use lib.Dec.{leb}
 use lib.ListN.{length}
 use Rattle.line.specs.Line.{refusalLine}
-use Rattle.line.proofs.Numerals.{decimal-short}
-use Rattle.line.proofs.Puts.{items-short}
+use Rattle.items.proofs.Numerals.{decimal-short}
+use Rattle.items.proofs.Items.{items-short}
 use Rattle.line.proofs.Lines.{refusal-size, placed-short, placed-put}
 use borrow.Author.Needs.{needs}
 use Rattle.line.proofs.told_line.Statement.{statement}

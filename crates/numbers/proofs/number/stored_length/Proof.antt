@@ -2,7 +2,8 @@
 -- Assumes nothing.
 use native.Mathlib.Omega.{arith}
 use lib.Dec.{leb}
-use Rattle.numbers.proofs.Sizes.{stored-length, bit-small}
+use Rattle.arithmetic.proofs.Tests.{bit-small}
+use Rattle.numbers.proofs.Sizes.{stored-length}
 use borrow.Author.Needs.{needs}
 use Rattle.numbers.proofs.number.stored_length.Statement.{statement}
 use Rattle.numbers.proofs.number.stored_length.Tie as tie

@@ -2,8 +2,8 @@
 ghost use mathlib.Core.Path.{_≡_};
 ghost use Prim.Native.Nat.{_+_, _≤_};
 ghost use lib.ListN.{length};
-ghost use Rattle.line.specs.Digits.{decimal};
-ghost use Rattle.numbers.specs.Run.{Put};
+ghost use Rattle.buffers.specs.Put.{Put};
+ghost use Rattle.items.specs.Digits.{decimal};
 
 // How many digits a number has, by a division for every four of them.
 pub fn digit_count(n: u64) -> usize

@@ -1,13 +1,16 @@
-// Items of a line, each with the space before it.
-use crate::number::digit_count;
-use crate::number::put_number;
+// Items of a line, each with the space before it: numbers in base ten and letters, measured, and put into a lent buffer. What is open
+// here is so for the crate of lines, which shows that there is room for what it puts.
+pub mod number;
+
+use number::digit_count;
+use number::put_number;
 ghost use mathlib.Core.Path.{_≡_};
 ghost use mathlib.Core.List.{map};
 ghost use Prim.Native.Nat.{_+_, _≤_};
 ghost use lib.ListN.{length};
-ghost use Rattle.line.specs.Digits.{decimal};
-ghost use Rattle.line.specs.Line.{spaced, letter};
-ghost use Rattle.numbers.specs.Run.{Put};
+ghost use Rattle.buffers.specs.Put.{Put};
+ghost use Rattle.items.specs.Digits.{decimal};
+ghost use Rattle.items.specs.Items.{spaced, letter};
 
 // The count of bytes that numbers take as items. The bound keeps it in range.
 pub fn numbers_size(numbers: &[u64]) -> usize

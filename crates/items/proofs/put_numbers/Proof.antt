@@ -1,16 +1,17 @@
--- `items::put_numbers` meets its contract: the items of the numbers passed are put, and one more is joined to them. The measure is the
+-- `put_numbers` meets its contract: the items of the numbers passed are put, and one more is joined to them. The measure is the
 -- count of numbers left. Assumes nothing.
 use Prim.Native.Nat.{_-_}
 use borrow.Author.Needs.{needs}
 use native.Mathlib.Omega.{arith}
 use denote.Ref.{now}
 use lib.ListN.{length, take, length-set}
-use Rattle.line.specs.Digits.{decimal}
-use Rattle.line.specs.Line.{spaced}
-use Rattle.numbers.specs.Run.{Put}
-use Rattle.line.proofs.Puts.{items, items-room, items-more, items-all, put-none, put-length}
-use Rattle.line.proofs.items.put_numbers.Statement.{statement}
-use Rattle.line.proofs.items.put_numbers.Tie as tie
+use Rattle.buffers.specs.Put.{Put}
+use Rattle.buffers.proofs.Puts.{put-none, put-length}
+use Rattle.items.specs.Digits.{decimal}
+use Rattle.items.specs.Items.{spaced}
+use Rattle.items.proofs.Items.{items, items-room, items-more, items-all}
+use Rattle.items.proofs.put_numbers.Statement.{statement}
+use Rattle.items.proofs.put_numbers.Tie as tie
 
 abbrev Inv-loop : tie.InvT-loop
 Inv-loop buffer₀ from numbers at₀ i₀ buffer at i = Put buffer₀ from (items decimal (take i numbers)) buffer at

@@ -5,11 +5,11 @@ use mathlib.Core.Path.{_≡_}
 use native.Mathlib.Omega.{arith}
 use lib.Dec.{leb}
 use lib.ListN.{length}
-use Rattle.line.specs.Digits.{decimal}
-use Rattle.numbers.proofs.Sizes.{bit-small}
-use Rattle.line.proofs.Numerals.{decimal-short, count-four, count-few}
-use Rattle.line.proofs.number.digit_count.Statement.{statement}
-use Rattle.line.proofs.number.digit_count.Tie as tie
+use Rattle.arithmetic.proofs.Tests.{bit-small}
+use Rattle.items.specs.Digits.{decimal}
+use Rattle.items.proofs.Numerals.{decimal-short, count-four, count-few}
+use Rattle.items.proofs.number.digit_count.Statement.{statement}
+use Rattle.items.proofs.number.digit_count.Tie as tie
 
 abbrev Inv-loop : tie.InvT-loop
 Inv-loop n left₀ count₀ left count = (left < 2 ^ 64) × (count + length (decimal left) ≡ 1 + length (decimal n))

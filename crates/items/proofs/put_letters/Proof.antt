@@ -1,15 +1,16 @@
--- `items::put_letters` meets its contract as `put_numbers` does: a letter's item is its space and its byte. The measure is the count of
+-- `put_letters` meets its contract as `put_numbers` does: a letter's item is its space and its byte. The measure is the count of
 -- letters left. Assumes nothing.
 use Prim.Native.Nat.{_+_, _-_, _≤_, _^_, _<_}
 use borrow.Author.Needs.{needs}
 use native.Mathlib.Omega.{arith}
 use denote.Ref.{now}
 use lib.ListN.{length, take, length-set}
-use Rattle.line.specs.Line.{spaced, letter}
-use Rattle.numbers.specs.Run.{Put}
-use Rattle.line.proofs.Puts.{items, items-room, items-more, items-all, put-none, put-byte-to, put-length}
-use Rattle.line.proofs.items.put_letters.Statement.{statement}
-use Rattle.line.proofs.items.put_letters.Tie as tie
+use Rattle.buffers.specs.Put.{Put}
+use Rattle.buffers.proofs.Puts.{put-none, put-byte-to, put-length}
+use Rattle.items.specs.Items.{spaced, letter}
+use Rattle.items.proofs.Items.{items, items-room, items-more, items-all}
+use Rattle.items.proofs.put_letters.Statement.{statement}
+use Rattle.items.proofs.put_letters.Tie as tie
 
 abbrev Inv-loop : tie.InvT-loop
 Inv-loop buffer₀ from letters at₀ i₀ buffer at i = Put buffer₀ from (items letter (take i letters)) buffer at

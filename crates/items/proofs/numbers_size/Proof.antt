@@ -1,16 +1,16 @@
--- `items::numbers_size` meets its contract: the size is that of the items passed, and one more adds its space and its digits. The measure
+-- `numbers_size` meets its contract: the size is that of the items passed, and one more adds its space and its digits. The measure
 -- is the count of numbers left. Assumes nothing.
 use Prim.Native.Nat.{_+_, _-_, _≤_}
 use mathlib.Core.Path.{_≡_, refl, ap, _∙_}
 use borrow.Author.Needs.{needs}
 use native.Mathlib.Omega.{arith}
-use lib.ListN.{length, take, getD}
-use Rattle.line.specs.Digits.{decimal}
-use Rattle.line.specs.Line.{spaced}
+use lib.ListN.{length, take}
+use Rattle.items.specs.Digits.{decimal}
+use Rattle.items.specs.Items.{spaced}
+use Rattle.items.proofs.Items.{items, items-size, items-within, items-short, items-all}
 use denote.Ref.{now}
-use Rattle.line.proofs.Puts.{items, items-size, items-within, items-short, items-all}
-use Rattle.line.proofs.items.numbers_size.Statement.{statement}
-use Rattle.line.proofs.items.numbers_size.Tie as tie
+use Rattle.items.proofs.numbers_size.Statement.{statement}
+use Rattle.items.proofs.numbers_size.Tie as tie
 
 abbrev Inv-loop : tie.InvT-loop
 Inv-loop numbers size₀ i₀ size i = (i ≤ length numbers) × (size ≡ length (items decimal (take i numbers)))

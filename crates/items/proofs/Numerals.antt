@@ -1,8 +1,8 @@
 -- Digits: a number of 64 bits is written as its tens followed by its last digit, so that twenty digits are always enough. From that, how
 -- many digits there are: four more for each division by 10000, and at last one for each power of ten reached. Assumes nothing.
 use Prim.Native.Nat.{ℕ, zero, suc, _+_, _/_, _%_, _^_, _*_, _≤_, _<_}
-use mathlib.Core.Path.{_≡_, refl}
-use mathlib.Core.List.{List, [], _∷_, _++_}
+use mathlib.Core.Path.{_≡_}
+use mathlib.Core.List.{[], _∷_, _++_}
 use mathlib.Core.Logic.{⊎-elim}
 use native.Mathlib.Omega.{arith}
 use native.Mathlib.Nat.{pow-suc}
@@ -10,8 +10,8 @@ use borrow.Author.Tests.{lt-ltb, le-ltb, le-leb, lt-leb}
 use lib.Dec.{leb}
 use lib.ListN.{length, length-append}
 use mir.Val.{boolByte}
-use Rattle.numbers.proofs.Groups.{split}
-use Rattle.line.specs.Digits.{digit, digits, decimal}
+use Rattle.arithmetic.proofs.Tests.{split}
+use Rattle.items.specs.Digits.{digit, digits, decimal}
 
 digits-last : (most n : ℕ) → n < 10 → digits (suc most) n ≡ digit n ∷ []
 unfolding digits

@@ -1,12 +1,12 @@
 -- `number::put_number` meets its contract: the loop's head is `DigitsHead`, and the first digit ends it. The measure is what is left.
 -- Assumes nothing.
-use Rattle.line.proofs.Numerals.{count-positive}
+use Rattle.items.proofs.Numerals.{count-positive}
+use Rattle.items.proofs.Digits.{DigitsHead, digits-none, digits-room, digits-last-put, digits-back, digits-more-put}
 use native.Mathlib.Omega.{arith}
 use borrow.Author.Needs.{needs}
 use lib.ListN.{length-set}
-use Rattle.line.proofs.Puts.{DigitsHead, digits-none, digits-room, digits-last-put, digits-back, digits-more-put}
-use Rattle.line.proofs.number.put_number.Statement.{statement}
-use Rattle.line.proofs.number.put_number.Tie as tie
+use Rattle.items.proofs.number.put_number.Statement.{statement}
+use Rattle.items.proofs.number.put_number.Tie as tie
 
 abbrev Inv-loop : tie.InvT-loop
 Inv-loop buffer₀ from n next at₀ left₀ buffer at left = DigitsHead buffer₀ from n buffer at left

@@ -1,0 +1,3 @@
+-- What it is to put bytes into a lent buffer.
+-- Assumes nothing.
+pub mod Put
