@@ -1,5 +1,4 @@
--- A file put into a buffer: how long it may be, what is refused for want of room, and that two parts put one after the other are the
--- whole. Assumes nothing.
+-- A file put into a buffer: how long it may be, what is refused for want of room, and what is placed. Assumes nothing.
 use Prim.Native.Nat.{ℕ, _+_, _-_, _*_, _≤_}
 use mathlib.Core.Path.{_≡_, sym, _∙_}
 use mathlib.Core.Bool.{true, false}
@@ -9,9 +8,8 @@ use native.Mathlib.Nat.{zero-add}
 use borrow.Author.Tests.{leb-true, le-leb}
 use lib.Dec.{leb}
 use lib.ListN.{length, getD, drop, length-append}
-use lib.Seq.{sets, sets-eq}
+use lib.Seq.{sets-eq}
 use Rattle.buffers.specs.Put.{Put}
-use Rattle.buffers.proofs.Puts.{sets-append}
 use Rattle.numbers.specs.Number.{stored}
 use Rattle.numbers.specs.Run.{storedAll}
 use Rattle.numbers.proofs.Codec.{groups-last}
@@ -35,18 +33,12 @@ pub placed-short : (bytes buffer : List ℕ) → leb (length bytes) (length buff
 unfolding placed
 placed-short bytes buffer short = simp short
 
-module _ (xs ys buffer : List ℕ) (room : leb (length (xs ++ ys)) (length buffer) ≡ true) where
-  -- the two parts' lengths
-  pub room-parts : length xs + length ys ≤ length buffer
-  room-parts = rw (← length-append xs ys) (leb-true (length (xs ++ ys)) (length buffer) room)
-
-  -- two parts put one after the other are the whole
-  pub placed-parts : {between exit : List ℕ} {at next : ℕ} → Put buffer 0 xs between at → Put between at ys exit next
-      → record { refusal = 0; size = next; buffer = exit } ≡ placed (xs ++ ys) buffer
-  unfolding placed
-  placed-parts {between} {exit} {at} {next} first second =
-      let size : next ≡ length (xs ++ ys) = rw length-append (omega (arith, first .place, second .place)) in
-      let both : exit ≡ sets buffer 0 (xs ++ ys) = second .stores ∙ rw (first .stores, first .place) (sym (sets-append buffer 0 xs ys)) in
-      let whole : exit ≡ (xs ++ ys) ++ drop (length (xs ++ ys)) buffer =
-      both ∙ sets-eq (xs ++ ys) buffer 0 (omega (arith, room-parts, length-append xs ys)) ∙ rw zero-add in
-      simp room (λ i. record { refusal = 0; size = size i; buffer = whole i })
+-- bytes that are put from the front on, where there is room for them
+pub placed-put : {bytes buffer exit : List ℕ} {next : ℕ} → Put buffer 0 bytes exit next → leb (length bytes) (length buffer) ≡ true
+    → record { refusal = 0; size = next; buffer = exit } ≡ placed bytes buffer
+unfolding placed
+placed-put {bytes} {buffer} {exit} {next} put room =
+    let fits = leb-true (length bytes) (length buffer) room in
+    let size : next ≡ length bytes = omega (arith, put .place) in
+    let whole : exit ≡ bytes ++ drop (length bytes) buffer = put .stores ∙ sets-eq bytes buffer 0 (omega arith) ∙ rw zero-add in
+    simp room (λ i. record { refusal = 0; size = size i; buffer = whole i })
