@@ -8,6 +8,9 @@ ghost use Rattle.exports.specs.Calls.{allocateTold, allocating, readingI
 use jointfile::Written;
 use sheets::Printed;
 
+// A joint's words.
+const JOINT_WORDS: usize = 37;
+
 // A lent slice is too short.
 const SHORT: u32 = 100;
 
@@ -33,7 +36,7 @@ pub extern "C" fn jinqewan_allocate(count: usize, limits: &[u64], forces: &mut [
 pub extern "C" fn jinqewan_read(bytes: &[u8], fields: &mut [u32], next: &mut usize) -> u32
     ensures { λ r. ⌜ record { number = r; fields = now (fields .exit); next = now (next .exit) } ≡ readingInto (now (bytes .entry)) (now (fields .entry)) (now (next .entry)) ⌝ }
 {
-    if fields.len() < 37 {
+    if fields.len() < JOINT_WORDS {
         return SHORT;
     }
     let reading = jointfile::read(bytes);
@@ -56,7 +59,7 @@ pub extern "C" fn jinqewan_rest(bytes: &[u8]) -> usize
 pub extern "C" fn jinqewan_write(fields: &[u32], buffer: &mut [u8], length: &mut usize) -> u32
     ensures { λ r. ⌜ record { number = r; buffer = now (buffer .exit); count = now (length .exit) } ≡ writingInto (now (fields .entry)) (now (buffer .entry)) (now (length .entry)) ⌝ }
 {
-    if fields.len() < 37 {
+    if fields.len() < JOINT_WORDS {
         return SHORT;
     }
     let written = jointfile::write(words::joints::joint_of(fields), buffer);
@@ -77,7 +80,7 @@ pub extern "C" fn jinqewan_write(fields: &[u32], buffer: &mut [u8], length: &mut
 pub extern "C" fn jinqewan_work(fields: &[u32], outcome: &mut [u64]) -> u32
     ensures { λ r. ⌜ workTold r (now (outcome .exit)) ≡ workingInto (now (fields .entry)) (now (outcome .entry)) ⌝ }
 {
-    if fields.len() < 37 {
+    if fields.len() < JOINT_WORDS {
         return SHORT;
     }
     if outcome.len() < 19 {
@@ -96,8 +99,8 @@ pub extern "C" fn jinqewan_sheet(input: &[u8], output: &mut [u8], length: &mut u
 {
     let printed = sheets::sheet(input, output);
     match printed {
-        Printed::Length(size) => {
-            *length = size;
+        Printed::Length(total) => {
+            *length = total;
             0
         }
         Printed::NoRoom => {
