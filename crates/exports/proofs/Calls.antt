@@ -20,8 +20,8 @@ use Rattle.outcome.specs.declared.Outcome.{Outcome}
 use Rattle.work.specs.Work.{worked}
 use Rattle.sheets.specs.Sheet.{printing, sheetLines, printedTold}
 use Rattle.sheets.specs.declared.Printed.{Printed}
-use Rattle.exports.specs.Words.{jointOfWords, wordsOf, front}
-use Rattle.exports.specs.Outcomes.{outcomeWords}
+use Rattle.words.specs.Words.{jointOfWords, wordsOf, front}
+use Rattle.words.specs.Outcomes.{outcomeWords}
 use Rattle.exports.specs.Calls.{allocateTold, allocateAnswer, allocating, readAnswer, readingInto, writeAnswer, writingInto, workTold, workAnswer, workingInto, sheetAnswer, sheetingInto}
 
 -- ---- Allocate

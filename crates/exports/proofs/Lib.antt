@@ -1,4 +1,2 @@
--- What the proofs of several functions use.
-pub mod Copies
-pub mod Axial
+-- What the proofs of several calls use. Assumes nothing.
 pub mod Calls

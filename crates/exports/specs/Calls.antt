@@ -13,8 +13,8 @@ use Rattle.jointfile.specs.declared.Reading.{Reading}
 use Rattle.outcome.specs.declared.Outcome.{Outcome}
 use Rattle.work.specs.Work.{worked}
 use Rattle.sheets.specs.Sheet.{Printing, whole, cut, printing, sheetLines}
-use Rattle.exports.specs.Words.{jointOfWords, wordsOf, front}
-use Rattle.exports.specs.Outcomes.{outcomeWords}
+use Rattle.words.specs.Words.{jointOfWords, wordsOf, front}
+use Rattle.words.specs.Outcomes.{outcomeWords}
 
 -- ---- Allocate
 

@@ -1,3 +1,2 @@
-pub mod Words
-pub mod Outcomes
+-- What each exported call answers. Assumes nothing.
 pub mod Calls

@@ -1,16 +1,15 @@
 // The calls as C and Rust see them: over numbers and lent slices. A joint is 37 words of 32 bits, document 01's fields in file order
 // with spare levers; N is its two's complement. Answers are document 01's refusal numbers, 0 for none; and 100, with nothing
 // written, where a lent slice is too short to hold a joint or an answer; of the sheet, 101 where the output has no room for all lines.
-mod outcomes;
-mod put;
-mod words;
-
 ghost use mathlib.Core.Path.{_≡_};
 ghost use lib.ListN.{drop};
 ghost use Rattle.jointfile.specs.File.{restOf};
-ghost use Rattle.exports.specs.Calls.{allocateTold, allocating, ReadTold, readingInto, WriteTold, writingInto, workTold, workingInto, sheetingInto};
+ghost use Rattle.exports.specs.Calls.{allocateTold, allocating, readingInto, writingInto, workTold, workingInto, sheetingInto};
 use jointfile::Written;
 use sheets::Printed;
+
+// A joint's words.
+const JOINT_WORDS: usize = 37;
 
 // A lent slice is too short.
 const SHORT: u32 = 100;
@@ -28,7 +27,7 @@ pub extern "C" fn jinqewan_allocate(count: usize, limits: &[u64], forces: &mut [
     }
     let allocation = allocation::allocate(count, limits);
     let eight = allocation.forces;
-    put::put_eight_u64(forces, 0, eight);
+    words::put::put_eight_u64(forces, 0, eight);
     allocation.refusal
 }
 
@@ -37,11 +36,11 @@ pub extern "C" fn jinqewan_allocate(count: usize, limits: &[u64], forces: &mut [
 pub extern "C" fn jinqewan_read(bytes: &[u8], fields: &mut [u32], next: &mut usize) -> u32
     ensures { λ r. ⌜ record { number = r; fields = now (fields .exit); next = now (next .exit) } ≡ readingInto (now (bytes .entry)) (now (fields .entry)) (now (next .entry)) ⌝ }
 {
-    if fields.len() < 37 {
+    if fields.len() < JOINT_WORDS {
         return SHORT;
     }
     let reading = jointfile::read(bytes);
-    words::put_joint(reading.joint, fields);
+    words::joints::put_joint(reading.joint, fields);
     *next = reading.next;
     reading.refusal
 }
@@ -60,10 +59,10 @@ pub extern "C" fn jinqewan_rest(bytes: &[u8]) -> usize
 pub extern "C" fn jinqewan_write(fields: &[u32], buffer: &mut [u8], length: &mut usize) -> u32
     ensures { λ r. ⌜ record { number = r; buffer = now (buffer .exit); count = now (length .exit) } ≡ writingInto (now (fields .entry)) (now (buffer .entry)) (now (length .entry)) ⌝ }
 {
-    if fields.len() < 37 {
+    if fields.len() < JOINT_WORDS {
         return SHORT;
     }
-    let written = jointfile::write(words::joint_of(fields), buffer);
+    let written = jointfile::write(words::joints::joint_of(fields), buffer);
     match written {
         Written::Length(size) => {
             *length = size;
@@ -81,14 +80,14 @@ pub extern "C" fn jinqewan_write(fields: &[u32], buffer: &mut [u8], length: &mut
 pub extern "C" fn jinqewan_work(fields: &[u32], outcome: &mut [u64]) -> u32
     ensures { λ r. ⌜ workTold r (now (outcome .exit)) ≡ workingInto (now (fields .entry)) (now (outcome .entry)) ⌝ }
 {
-    if fields.len() < 37 {
+    if fields.len() < JOINT_WORDS {
         return SHORT;
     }
     if outcome.len() < 19 {
         return SHORT;
     }
-    let worked = work::work(words::joint_of(fields));
-    outcomes::put_outcome(worked, outcome);
+    let worked = work::work(words::joints::joint_of(fields));
+    words::outcomes::put_outcome(worked, outcome);
     worked.refusal
 }
 
@@ -100,8 +99,8 @@ pub extern "C" fn jinqewan_sheet(input: &[u8], output: &mut [u8], length: &mut u
 {
     let printed = sheets::sheet(input, output);
     match printed {
-        Printed::Length(size) => {
-            *length = size;
+        Printed::Length(total) => {
+            *length = total;
             0
         }
         Printed::NoRoom => {

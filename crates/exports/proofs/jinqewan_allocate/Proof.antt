@@ -2,7 +2,7 @@
 -- Assumes nothing.
 use denote.Ref.{now}
 use Rattle.exports.proofs.Calls.{allocate-short, allocate-answer}
-use Rattle.exports.proofs.Copies.{put-front}
+use Rattle.words.proofs.Copies.{put-front}
 use borrow.Author.Needs.{needs}
 use Rattle.exports.proofs.jinqewan_allocate.Statement.{statement}
 use Rattle.exports.proofs.jinqewan_allocate.Tie as tie

@@ -1,5 +1,10 @@
 -- `jinqewan_rest` meets its contract: what is left is the end of the bytes, so it begins at the difference of the lengths.
 -- Assumes nothing.
+use Prim.Native.Nat.{ℕ, _-_}
+use mathlib.Core.Path.{ap, _∙_}
+use mathlib.Core.List.{List}
+use native.Mathlib.Omega.{arith}
+use lib.ListN.{length, drop}
 use denote.Ref.{now}
 use Rattle.numbers.specs.Number.{Bytes}
 use Rattle.exports.proofs.Calls.{rest-within, rest-place}
@@ -7,17 +12,20 @@ use borrow.Author.Needs.{needs}
 use Rattle.exports.proofs.jinqewan_rest.Statement.{statement}
 use Rattle.exports.proofs.jinqewan_rest.Tie as tie
 
-bytes : (c : tie.After-rest) → Bytes (now (c .before .before .args .bytes))
+abbrev lent : tie.After-rest → List ℕ
+lent c = now (c .before .before .args .bytes)
+
+bytes : (c : tie.After-rest) → Bytes (lent c)
 bytes c = λ k. c .before .shared-slice-known .given k .fits
 
 rest-requires : tie.Need-rest-requires
 rest-requires c κs = search needs
 
 sub-result : tie.Need-sub-result
-sub-result c = rw (c .rest .ensures) (rest-within (now (c .before .before .args .bytes)) (bytes c))
+sub-result c = omega (arith, ap length (c .rest .ensures), rest-within (lent c) (bytes c))
 
 returns : tie.Need-returns
-returns c = rw (c .rest .ensures) (rest-place (now (c .before .before .args .bytes)) (bytes c))
+returns c = ap (λ (left : List ℕ). drop (length (lent c) - length left) (lent c)) (c .rest .ensures) ∙ rest-place (lent c) (bytes c)
 
 pub jinqewan-rest-spec : {M : Type 1} → statement M
 jinqewan-rest-spec = tie.close (tie.spec rest-requires sub-result returns)

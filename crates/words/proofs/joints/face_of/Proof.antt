@@ -1,0 +1,65 @@
+-- `joints::face_of` meets its contract: each part is what its function ensures, and the rest is as it stands. Assumes nothing.
+use denote.Ref.{now}
+use Rattle.words.specs.Words.{faceOfWords}
+use borrow.Author.Needs.{needs}
+use Rattle.words.proofs.joints.face_of.Statement.{statement}
+use Rattle.words.proofs.joints.face_of.Tie as tie
+
+shared-slice-read-t3 : tie.Need-shared-slice-read-t3
+shared-slice-read-t3 c = search needs
+
+shared-slice-read-t5 : tie.Need-shared-slice-read-t5
+shared-slice-read-t5 c = search needs
+
+beam-of-requires : tie.Need-beam-of-requires
+beam-of-requires c κs = search needs
+
+plate-of-requires : tie.Need-plate-of-requires
+plate-of-requires c κs = search needs
+
+layout-of-requires : tie.Need-layout-of-requires
+layout-of-requires c κs = search needs
+
+welds-of-requires : tie.Need-welds-of-requires
+welds-of-requires c κs = search needs
+
+shared-slice-read-t11 : tie.Need-shared-slice-read-t11
+shared-slice-read-t11 c = search needs
+
+loads-of-requires : tie.Need-loads-of-requires
+loads-of-requires c κs = search needs
+
+levers-of-requires : tie.Need-levers-of-requires
+levers-of-requires c κs = search needs
+
+returns : tie.Need-returns
+returns c =
+    let weld = c .before .before .before in
+    let beam = weld .before .before .before in
+    let face = faceOfWords (now (beam .before .before .before .before .args .words)) in
+    λ i. record {
+      rows = face .rows;
+      extended = face .extended;
+      beam = beam .beam-of .ensures i;
+      plate = weld .before .before .plate-of .ensures i;
+      layout = weld .before .layout-of .ensures i;
+      welds = weld .welds-of .ensures i;
+      «shear_rows» = face .«shear_rows»;
+      loads = c .before .loads-of .ensures i;
+      levers = c .levers-of .ensures i;
+    }
+
+pub face-of-spec : {M : Type 1} → statement M
+face-of-spec =
+    tie.close
+    (tie.spec
+    shared-slice-read-t3
+    shared-slice-read-t5
+    beam-of-requires
+    plate-of-requires
+    layout-of-requires
+    welds-of-requires
+    shared-slice-read-t11
+    loads-of-requires
+    levers-of-requires
+    returns)
