@@ -27,7 +27,7 @@ pub fn allocate(count: usize, limits: &[u64]) -> Allocation
     ensures equals { λ r. ⌜ r ≡ allocated count (now (limits .entry)) ⌝ }
     ensures best { λ r. ⌜ (r .refusal ≡ 0 → Best (listed count (now (limits .entry))) count (take count (r .forces))) ⌝ }
 {
-    if !row_count(count) {
+    if !is_row_count(count) {
         return refused(3);
     }
     let groups = count * (count + 1) / 2;
@@ -43,7 +43,7 @@ pub fn allocate(count: usize, limits: &[u64]) -> Allocation
     }
 }
 
-// The sharing itself, for a caller that has shown its limits to be few and small enough.
+// The sharing itself. Open for Work, which has shown that there is a limit for each group and none too large.
 pub fn share(count: usize, limits: &[u64]) -> [u64; 8]
     requires { ⌜ Shareable count (now limits) ⌝ }
     ensures { λ r. ⌜ r ≡ eightPlaces (shared (listed count (now (limits .entry))) count) ⌝ }
@@ -106,7 +106,7 @@ fn none_above(limits: &[u64], most: u64) -> bool
 }
 
 // Refusal 3's question.
-fn row_count(count: usize) -> bool
+fn is_row_count(count: usize) -> bool
     ensures { λ r. ⌜ r ≡ within rowCounts count ⌝ }
 {
     (1 <= count) & (count <= 8)

@@ -5,7 +5,7 @@ use mathlib.Core.Path.{_≡_, refl, sym, ap, _∙_}
 use mathlib.Core.List.{List}
 use native.Mathlib.Omega.{arith}
 use borrow.Author.Tests.{le-leb, lt-leb}
-use lib.ListN.{length, drop}
+use lib.ListN.{length}
 use Rattle.joint.specs.declared.Joint.{Joint}
 use Rattle.allocation.specs.declared.Allocation.{Allocation}
 use Rattle.allocation.specs.Allocation.{allocated}
@@ -15,7 +15,7 @@ use Rattle.jointfile.specs.File.{readJoint, answer, reading, leftOf, restOf}
 use Rattle.jointfile.specs.Write.{writing, writtenTold}
 use Rattle.jointfile.specs.declared.Reading.{Reading}
 use Rattle.jointfile.specs.declared.Written.{Written}
-use Rattle.jointfile.proofs.Places.{next-left, left-shorter}
+use Rattle.jointfile.proofs.Places.{left-shorter}
 use Rattle.outcome.specs.declared.Outcome.{Outcome}
 use Rattle.work.specs.Work.{worked}
 use Rattle.sheets.specs.Sheet.{printing, sheetLines, printedTold}
@@ -64,7 +64,7 @@ read-answer bytes fields next {answer} room is put =
 
 -- ---- Rest
 
-rest-next : (bytes : List ℕ) → length bytes - length (restOf bytes) ≡ reading bytes .next
+pub rest-next : (bytes : List ℕ) → length bytes - length (restOf bytes) ≡ reading bytes .next
 rest-next bytes = go (readJoint bytes)
   where
     go : (outcome : Reads Joint) → length bytes - length (leftOf outcome) ≡ answer (length bytes) outcome .next
@@ -77,9 +77,6 @@ rest-within bytes all = go (readJoint bytes) refl
     go : (outcome : Reads Joint) → readJoint bytes ≡ outcome → length (leftOf outcome) ≤ length bytes
     go (got joint left) e = omega (arith, left-shorter bytes joint left all e)
     go (refused r) e = omega arith
-
-pub rest-place : (bytes : List ℕ) → Bytes bytes → drop (length bytes - length (restOf bytes)) bytes ≡ restOf bytes
-rest-place bytes all = ap (λ (k : ℕ). drop k bytes) (rest-next bytes) ∙ next-left bytes all
 
 -- ---- Write
 

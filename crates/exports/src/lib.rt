@@ -2,8 +2,7 @@
 // with spare levers; N is its two's complement. Answers are document 01's refusal numbers, 0 for none; and 100, with nothing
 // written, where a lent slice is too short to hold a joint or an answer; of the sheet, 101 where the output has no room for all lines.
 ghost use mathlib.Core.Path.{_≡_};
-ghost use lib.ListN.{drop};
-ghost use Rattle.jointfile.specs.File.{restOf};
+ghost use Rattle.jointfile.specs.File.{reading};
 ghost use Rattle.exports.specs.Calls.{allocateTold, allocating, readingInto, writingInto, workTold, workingInto, sheetingInto};
 use jointfile::Written;
 use sheets::Printed;
@@ -45,10 +44,10 @@ pub extern "C" fn jinqewan_read(bytes: &[u8], fields: &mut [u32], next: &mut usi
     reading.refusal
 }
 
-// Rest: the place where the part after the first joint begins.
+// Rest: the place where the part after the first joint begins, the end when it can't be read.
 #[no_mangle]
 pub extern "C" fn jinqewan_rest(bytes: &[u8]) -> usize
-    ensures { λ r. ⌜ drop r (now (bytes .entry)) ≡ restOf (now (bytes .entry)) ⌝ }
+    ensures { λ r. ⌜ r ≡ reading (now (bytes .entry)) .next ⌝ }
 {
     let left = jointfile::rest(bytes);
     bytes.len() - left.len()

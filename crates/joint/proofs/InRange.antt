@@ -136,12 +136,3 @@ module _ (face : Face) (r : FaceInRange face) where
 
   pub row-lever : (row : ℕ) → row < face .rows → row < length (face .levers) → Within (1 to 20000) (getD (face .levers) row 0)
   row-lever row used h = rw (lt-ltb row (face .rows) used) at (r .lever row h)
-
-  pub spare-lever : (row : ℕ) → face .rows ≤ row → row < length (face .levers) → getD (face .levers) row 0 ≡ 0
-  spare-lever row spare h = let none : Within (0 to 0) (getD (face .levers) row 0) = rw (le-ltb row (face .rows) spare) at (r .lever row h) in omega arith
-
-  pub flush-edge : face .extended ≡ 0 → face .layout .edge ≡ 0
-  flush-edge flush = let none : Within (0 to 0) (face .layout .edge) = rw (eq-eqb (face .extended) 0 flush) at (r .layout .edge) in omega arith
-
-  pub extended-edge : face .extended ≡ 1 → Within (150 to 2000) (face .layout .edge)
-  extended-edge extended = rw (ne-eqb (face .extended) 0 (λ (e : face .extended ≡ 0). omega arith)) at (r .layout .edge)

@@ -58,7 +58,7 @@ pub fn stored_size(values: &[u32]) -> usize
 }
 
 // Writes the stored forms of the numbers from `from` on, and answers the place after them. The crate of joint files shows that there is
-// room: it measures them first.
+// room.
 pub fn put_numbers(buffer: &mut [u8], from: usize, values: &[u32]) -> usize
     requires { ⌜ from + length (storedAll (now values)) ≤ length (now buffer) ⌝ }
     ensures { λ r. ⌜ Put (now (buffer .entry)) from (storedAll (now (values .entry))) (now (buffer .exit)) r ⌝ }

@@ -8,7 +8,7 @@ use Rattle.refusals.specs.Refusals.{overCompressed}
 use Rattle.refusals.specs.declared.Cap.{Cap}
 use Rattle.refusals.specs.declared.Cap.the-variants.{Newtons, Exceeded}
 
--- The tension cap where N isn't above the governing force, by cases: what each case of the enum says.
+-- The tension cap, 'that force less N', as a case with its newtons; `Exceeded` is refusal 15, 'N above the governing compression force'.
 unfoldable pub capCase : Loads → (force : ℕ) → Cap
 capCase loads force =
     cond (overCompressed loads force) Exceeded (Newtons (natAbs (pos force -ℤ loads .axial)))

@@ -7,8 +7,9 @@ use lib.Dec.{ltb, eqb}
 use lib.ListN.{getD, take}
 use lib.IntN.{pos}
 use lib.Signed.{ltZ}
-use Rattle.arithmetic.specs.Range.{Within, _to_}
+use Rattle.arithmetic.specs.Range.{Within}
 use Rattle.arithmetic.specs.Table.{every}
+use Rattle.joint.specs.Ranges.{depths, flanges}
 use Rattle.joint.specs.declared.Face.{Face}
 use Rattle.joint.specs.declared.Loads.{Loads}
 use Rattle.spacing.specs.declared.Spacing.{Spacing}
@@ -45,6 +46,6 @@ overCompressed loads force = ltZ (pos force) (loads .axial)
 -- What finding the rows in place relies on: each of it from fields in range.
 pub record PlacesInRange (face : Face) : Type 0 where
   pub rows : face .rows ≤ 8
-  pub depth : Within (1000 to 15000) (face .beam .depth)
-  pub flange : Within (40 to 500) (face .beam .flange)
+  pub depth : Within depths (face .beam .depth)
+  pub flange : Within flanges (face .beam .flange)
   pub lever : (row : ℕ) → getD (face .levers) row 0 ≤ 20000

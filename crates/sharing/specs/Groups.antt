@@ -19,7 +19,7 @@ total (x ∷ xs) = x + total xs
 unfoldable pub groupSum : List ℕ → ℕ → ℕ → ℕ
 groupSum forces i j = total (take (suc j - i) (drop i forces))
 
--- 'The cap joins the limits as one on group 1 to n.'
+-- The cap 'joins the limits as one on group 1 to n'.
 unfoldable pub joined : Table → ℕ → ℕ → Table
 joined limit n cap i j = cond (eqb i 0 && eqb (suc j) n) (min (limit i j) cap) (limit i j)
 

@@ -1,5 +1,5 @@
-// Strengths of BS 5950-1:2000 in newtons per square millimetre: steel, bolts and welds. Each takes any numbers: what is in none of
-// document 01's tables has strength 0.
+// Strengths of BS 5950-1:2000 in newtons per square millimetre: steel, bolts and welds. What is in none of document 01's tables has
+// strength 0; of welds any two grades have one, 220 if either is 275, else 250.
 ghost use mathlib.Core.Path.{_≡_};
 ghost use mathlib.Core.List.{[], _∷_};
 ghost use Prim.Native.Nat.{_≤_};

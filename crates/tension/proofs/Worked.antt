@@ -21,7 +21,7 @@ use Rattle.stubs.specs.Bending.{leastOf, extensionLength, bending}
 use Rattle.stubs.specs.Web.{webTension}
 use Rattle.stubs.specs.Worked.{stubOf, lengthBy, bendingBy, webBy}
 use Rattle.stubs.specs.declared.Stub.{Stub}
-use Rattle.stubs.proofs.Same.{bending-worked, web-worked}
+use Rattle.stubs.proofs.Same.{bending-worked, web-worked, length-worked}
 use Rattle.tension.specs.Limits.{rowsIn, columnFlangeBending, extensionBending, endPlateBending, endPlateLimits, columnWebTension, beamWebLimits, groupLimit}
 use Rattle.tension.specs.Dimensions.{dimensionsOf, columnBy, plateSideBy, plateBy, websBy, limitBy, DimensionsWithin}
 use Rattle.tension.specs.Admissible.{Measured}
@@ -56,7 +56,7 @@ length-either false c a b s = refl
 module _ (column : Column) (bolts : Bolts) (face : Face) (i j : ℕ) where
   column-worked : columnBy (dimensionsOf column bolts face) (rowsIn i j) (rise face i j) ≡ columnFlangeBending column bolts face i j
   unfolding columnBy dimensionsOf columnFlangeBending
-  column-worked = bending-worked _ _ _ _ _ _ _
+  column-worked = bending-worked _ _ _ _ _ _ _ ∙ ap (bending _ _ _ _ _ _) (length-worked _ _ _)
 
   plate-worked :
       (let d = dimensionsOf column bolts face in

@@ -13,7 +13,7 @@ use Rattle.sharing.specs.Groups.{Table, listed}
 use Rattle.spacing.specs.Spacing.{columnM, plateM, columnEdge, plateEdge, extensionM, spacingOf}
 use Rattle.spacing.specs.declared.Spacing.{Spacing}
 
--- What refusals 10 to 13 leave.
+-- What refusals 10, 11 and 13 leave; the limits need nothing of 12.
 pub record Admissible (joint : Joint) : Type 0 where
   -- refusal 10
   pub in-range : InRange joint

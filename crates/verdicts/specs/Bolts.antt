@@ -15,7 +15,7 @@ use Rattle.sharing.specs.Groups.{total}
 abbrev pub pairShear : Bolts → ℕ
 pairShear bolts = 2 * boltArea (bolts .diameter) * boltShear (bolts .class) / 10
 
--- 'bearing δ×t×pb÷5', 'pb the lower of bolt bearing and the steel bearing of that part's grade'
+-- 'Bearing δ×tp×pb÷5 and δ×Tc×pb÷5', for one thickness: 'pb the lower of bolt bearing and the steel bearing of that part's grade'
 abbrev pub pairBearing : Bolts → (thickness grade : ℕ) → ℕ
 pairBearing bolts thickness grade = bolts .diameter * thickness * min (boltBearing (bolts .class)) (steelBearing grade) / 5
 

@@ -2,11 +2,11 @@
 -- Assumes nothing.
 use Prim.Native.Nat.{ℕ}
 use mathlib.Core.Bool.{Bool, false, cond, not}
+use lib.Dec.{eqb}
 use lib.ListN.{replicate}
-use Rattle.joint.specs.Fields.{fieldCheck}
+use Rattle.joint.specs.Fields.{fieldCheck, refusalOf, fieldOf}
 use Rattle.joint.specs.declared.Joint.{Joint}
 use Rattle.joint.specs.declared.FieldCheck.{FieldCheck}
-use Rattle.joint.specs.declared.FieldCheck.the-variants.{AllInRange, Outside}
 use Rattle.sharing.specs.Groups.{total}
 use Rattle.sharing.specs.Sharing.{newtonMetres}
 use Rattle.allocation.specs.Allocation.{eightPlaces}
@@ -68,8 +68,7 @@ fromLevers joint =
 
 -- 10 'with the first such field's number'
 abbrev pub afterFields : FieldCheck → Outcome → Outcome
-afterFields AllInRange outcome = outcome
-afterFields (Outside field) outcome = refusedBy 10 field
+afterFields found outcome = cond (eqb (refusalOf found) 0) outcome (refusedBy (refusalOf found) (fieldOf found))
 
 -- 'Tried in this order'
 unfoldable pub worked : Joint → Outcome

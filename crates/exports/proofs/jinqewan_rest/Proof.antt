@@ -4,10 +4,10 @@ use Prim.Native.Nat.{ℕ, _-_}
 use mathlib.Core.Path.{ap, _∙_}
 use mathlib.Core.List.{List}
 use native.Mathlib.Omega.{arith}
-use lib.ListN.{length, drop}
+use lib.ListN.{length}
 use denote.Ref.{now}
 use Rattle.numbers.specs.Number.{Bytes}
-use Rattle.exports.proofs.Calls.{rest-within, rest-place}
+use Rattle.exports.proofs.Calls.{rest-within, rest-next}
 use borrow.Author.Needs.{needs}
 use Rattle.exports.proofs.jinqewan_rest.Statement.{statement}
 use Rattle.exports.proofs.jinqewan_rest.Tie as tie
@@ -25,7 +25,7 @@ sub-result : tie.Need-sub-result
 sub-result c = omega (arith, ap length (c .rest .ensures), rest-within (lent c) (bytes c))
 
 returns : tie.Need-returns
-returns c = ap (λ (left : List ℕ). drop (length (lent c) - length left) (lent c)) (c .rest .ensures) ∙ rest-place (lent c) (bytes c)
+returns c = ap (λ (left : List ℕ). length (lent c) - length left) (c .rest .ensures) ∙ rest-next (lent c)
 
 pub jinqewan-rest-spec : {M : Type 1} → statement M
 jinqewan-rest-spec = tie.close (tie.spec rest-requires sub-result returns)
