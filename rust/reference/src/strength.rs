@@ -77,7 +77,7 @@ fn bolt_class(class: u32) -> (u64, u64, u64, u64) {
     }
 }
 
-/// Refusal 14: flange and plate both too thick for the bolts to give way by bending.
+/// Refusal 14: flange and plate both too thick to yield before the bolts break.
 pub fn both_too_thick(joint: &Joint, strengths: &Strengths) -> bool {
     let diameter = u64::from(joint.bolt_diameter);
     let most = 10000 * diameter * diameter * strengths.bolt_ultimate;
