@@ -58,11 +58,12 @@ pub fn write(joint: &Joint, buffer: &mut [u8]) -> Result<usize, WriteRefusal> {
     }
     let mut fields = joint.to_fields();
     fields[AXIAL] = stored(joint.axial);
-    let mut file = [0; LONGEST_FILE];
-    let mut length = 0;
-    for &field in &fields[..HEAD + rows] {
-        length = put_number(&mut file, length, field);
+    let numbers = &fields[..HEAD + rows];
+    if let Some(front) = buffer.first_chunk_mut() {
+        return Ok(put_numbers(front, numbers));
     }
+    let mut file = [0; LONGEST_FILE];
+    let length = put_numbers(&mut file, numbers);
     let Some(front) = buffer.get_mut(..length) else {
         return Err(WriteRefusal::ShortBuffer);
     };
@@ -90,6 +91,13 @@ fn read_number(bytes: &[u8]) -> Result<(u32, &[u8]), ReadRefusal> {
         shift += 7;
     }
     Ok((value, rest))
+}
+
+/// The count of bytes put.
+fn put_numbers(file: &mut [u8; LONGEST_FILE], numbers: &[u32]) -> usize {
+    numbers
+        .iter()
+        .fold(0, |at, &number| put_number(file, at, number))
 }
 
 #[inline]
