@@ -1,4 +1,5 @@
 // A joint's fields 1 to 29 in file order: the joint that has them, and those of a joint. Field k of document 01 stands at place k - 1.
+// What is open here over a slice is so for the crate of words, which shows that the slice is long enough.
 use joint::Beam;
 use joint::Bolts;
 use joint::Column;
@@ -9,7 +10,9 @@ use joint::Loads;
 use joint::Plate;
 use joint::Welds;
 ghost use mathlib.Core.Path.{_≡_};
-ghost use Rattle.fields.specs.Fields.{axialOf, storedAxial, columnOf, beamOf, loadsOf, faceOf, jointOf, fieldsOf};
+ghost use Prim.Native.Nat.{_≤_};
+ghost use lib.ListN.{length};
+ghost use Rattle.fields.specs.Fields.{axialOf, storedAxial, columnOf, boltsOf, beamOf, plateOf, layoutOf, weldsOf, loadsOf, faceOf, jointOf, fieldsOf};
 
 // The axial force that a number of the file stands for.
 fn axial_of(x: u32) -> i32
@@ -30,8 +33,9 @@ fn stored_axial(axial: i32) -> u32
     }
 }
 
-fn column_of(fields: [u32; 29]) -> Column
-    ensures { λ r. ⌜ r ≡ columnOf fields ⌝ }
+pub fn column_of(fields: &[u32]) -> Column
+    requires { ⌜ 29 ≤ length (now fields) ⌝ }
+    ensures { λ r. ⌜ r ≡ columnOf (now (fields .entry)) ⌝ }
 {
     Column {
         grade: fields[4],
@@ -44,8 +48,19 @@ fn column_of(fields: [u32; 29]) -> Column
     }
 }
 
-fn beam_of(fields: [u32; 29]) -> Beam
-    ensures { λ r. ⌜ r ≡ beamOf fields ⌝ }
+pub fn bolts_of(fields: &[u32]) -> Bolts
+    requires { ⌜ 29 ≤ length (now fields) ⌝ }
+    ensures { λ r. ⌜ r ≡ boltsOf (now (fields .entry)) ⌝ }
+{
+    Bolts {
+        class: fields[2],
+        diameter: fields[3],
+    }
+}
+
+pub fn beam_of(fields: &[u32]) -> Beam
+    requires { ⌜ 29 ≤ length (now fields) ⌝ }
+    ensures { λ r. ⌜ r ≡ beamOf (now (fields .entry)) ⌝ }
 {
     Beam {
         grade: fields[5],
@@ -56,8 +71,42 @@ fn beam_of(fields: [u32; 29]) -> Beam
     }
 }
 
-fn loads_of(fields: [u32; 29]) -> Loads
-    ensures { λ r. ⌜ r ≡ loadsOf fields ⌝ }
+pub fn plate_of(fields: &[u32]) -> Plate
+    requires { ⌜ 29 ≤ length (now fields) ⌝ }
+    ensures { λ r. ⌜ r ≡ plateOf (now (fields .entry)) ⌝ }
+{
+    Plate {
+        grade: fields[6],
+        width: fields[17],
+        thickness: fields[18],
+    }
+}
+
+pub fn layout_of(fields: &[u32]) -> Layout
+    requires { ⌜ 29 ≤ length (now fields) ⌝ }
+    ensures { λ r. ⌜ r ≡ layoutOf (now (fields .entry)) ⌝ }
+{
+    Layout {
+        gauge: fields[19],
+        edge: fields[20],
+        alpha: fields[21],
+    }
+}
+
+pub fn welds_of(fields: &[u32]) -> Welds
+    requires { ⌜ 29 ≤ length (now fields) ⌝ }
+    ensures { λ r. ⌜ r ≡ weldsOf (now (fields .entry)) ⌝ }
+{
+    Welds {
+        flange: fields[22],
+        web: fields[23],
+        length: fields[24],
+    }
+}
+
+fn loads_of(fields: &[u32]) -> Loads
+    requires { ⌜ 29 ≤ length (now fields) ⌝ }
+    ensures { λ r. ⌜ r ≡ loadsOf (now (fields .entry)) ⌝ }
 {
     Loads {
         axial: axial_of(fields[26]),
@@ -66,31 +115,17 @@ fn loads_of(fields: [u32; 29]) -> Loads
     }
 }
 
-fn face_of(fields: [u32; 29], levers: [u32; 8]) -> Face
-    ensures { λ r. ⌜ r ≡ faceOf fields levers ⌝ }
+fn face_of(fields: &[u32], levers: [u32; 8]) -> Face
+    requires { ⌜ 29 ≤ length (now fields) ⌝ }
+    ensures { λ r. ⌜ r ≡ faceOf (now (fields .entry)) levers ⌝ }
 {
-    let plate = Plate {
-        grade: fields[6],
-        width: fields[17],
-        thickness: fields[18],
-    };
-    let layout = Layout {
-        gauge: fields[19],
-        edge: fields[20],
-        alpha: fields[21],
-    };
-    let welds = Welds {
-        flange: fields[22],
-        web: fields[23],
-        length: fields[24],
-    };
     Face {
         rows: fields[0],
         extended: fields[1],
         beam: beam_of(fields),
-        plate,
-        layout,
-        welds,
+        plate: plate_of(fields),
+        layout: layout_of(fields),
+        welds: welds_of(fields),
         shear_rows: fields[25],
         loads: loads_of(fields),
         levers,
@@ -101,14 +136,10 @@ fn face_of(fields: [u32; 29], levers: [u32; 8]) -> Face
 pub fn joint_of(fields: [u32; 29], levers: [u32; 8]) -> Joint
     ensures { λ r. ⌜ r ≡ jointOf fields levers ⌝ }
 {
-    let bolts = Bolts {
-        class: fields[2],
-        diameter: fields[3],
-    };
     Joint {
-        column: column_of(fields),
-        bolts,
-        face: face_of(fields, levers),
+        column: column_of(&fields),
+        bolts: bolts_of(&fields),
+        face: face_of(&fields, levers),
     }
 }
 

@@ -1,20 +1,13 @@
-// A joint as 37 words, and back. Word k of document 01 stands at place k - 1.
+// A joint as 37 words, and back. Field k of document 01 stands at place k - 1.
 ghost use mathlib.Core.Path.{_≡_};
 ghost use Prim.Native.Nat.{_≤_};
 ghost use lib.ListN.{length};
-ghost use Rattle.fields.specs.Fields.{columnOf, boltsOf, beamOf, plateOf, layoutOf, weldsOf};
 ghost use Rattle.words.specs.Words.{axialOfWord, wordOfAxial, loadsOfWords, leversOfWords, faceOfWords, jointOfWords, headOf, wordsOf, front};
 use crate::put::put_eight_u32;
 use crate::put::put_u32;
-use joint::Beam;
-use joint::Bolts;
-use joint::Column;
 use joint::Face;
 use joint::Joint;
-use joint::Layout;
 use joint::Loads;
-use joint::Plate;
-use joint::Welds;
 
 // The axial force that a word stands for.
 fn axial_of(word: u32) -> i32
@@ -35,77 +28,6 @@ fn word_of(axial: i32) -> u32
         4294967295 - ((-1 - axial) as u32)
     } else {
         axial as u32
-    }
-}
-
-fn column_of(words: &[u32]) -> Column
-    requires { ⌜ 37 ≤ length (now words) ⌝ }
-    ensures { λ r. ⌜ r ≡ columnOf (now (words .entry)) ⌝ }
-{
-    Column {
-        grade: words[4],
-        depth: words[7],
-        width: words[8],
-        flange: words[9],
-        web: words[10],
-        root: words[11],
-        clear: words[12],
-    }
-}
-
-fn bolts_of(words: &[u32]) -> Bolts
-    requires { ⌜ 37 ≤ length (now words) ⌝ }
-    ensures { λ r. ⌜ r ≡ boltsOf (now (words .entry)) ⌝ }
-{
-    Bolts {
-        class: words[2],
-        diameter: words[3],
-    }
-}
-
-fn beam_of(words: &[u32]) -> Beam
-    requires { ⌜ 37 ≤ length (now words) ⌝ }
-    ensures { λ r. ⌜ r ≡ beamOf (now (words .entry)) ⌝ }
-{
-    Beam {
-        grade: words[5],
-        depth: words[13],
-        width: words[14],
-        flange: words[15],
-        web: words[16],
-    }
-}
-
-fn plate_of(words: &[u32]) -> Plate
-    requires { ⌜ 37 ≤ length (now words) ⌝ }
-    ensures { λ r. ⌜ r ≡ plateOf (now (words .entry)) ⌝ }
-{
-    Plate {
-        grade: words[6],
-        width: words[17],
-        thickness: words[18],
-    }
-}
-
-fn layout_of(words: &[u32]) -> Layout
-    requires { ⌜ 37 ≤ length (now words) ⌝ }
-    ensures { λ r. ⌜ r ≡ layoutOf (now (words .entry)) ⌝ }
-{
-    Layout {
-        gauge: words[19],
-        edge: words[20],
-        alpha: words[21],
-    }
-}
-
-fn welds_of(words: &[u32]) -> Welds
-    requires { ⌜ 37 ≤ length (now words) ⌝ }
-    ensures { λ r. ⌜ r ≡ weldsOf (now (words .entry)) ⌝ }
-{
-    Welds {
-        flange: words[22],
-        web: words[23],
-        length: words[24],
     }
 }
 
@@ -143,10 +65,10 @@ fn face_of(words: &[u32]) -> Face
     Face {
         rows: words[0],
         extended: words[1],
-        beam: beam_of(words),
-        plate: plate_of(words),
-        layout: layout_of(words),
-        welds: welds_of(words),
+        beam: fields::beam_of(words),
+        plate: fields::plate_of(words),
+        layout: fields::layout_of(words),
+        welds: fields::welds_of(words),
         shear_rows: words[25],
         loads: loads_of(words),
         levers: levers_of(words),
@@ -159,8 +81,8 @@ pub fn joint_of(words: &[u32]) -> Joint
     ensures { λ r. ⌜ r ≡ jointOfWords (now (words .entry)) ⌝ }
 {
     Joint {
-        column: column_of(words),
-        bolts: bolts_of(words),
+        column: fields::column_of(words),
+        bolts: fields::bolts_of(words),
         face: face_of(words),
     }
 }

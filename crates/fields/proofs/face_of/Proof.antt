@@ -1,63 +1,47 @@
--- `face_of` meets its contract: beam and loads are what their functions ensure, and the rest is as it stands.
--- Assumes nothing.
+-- `face_of` meets its contract: each part is what its function ensures, and the rest is as it stands. Assumes nothing.
+use denote.Ref.{now}
 use Rattle.fields.specs.Fields.{faceOf}
 use borrow.Author.Needs.{needs}
 use Rattle.fields.proofs.face_of.Statement.{statement}
 use Rattle.fields.proofs.face_of.Tie as tie
 
-array-read-t9 : tie.Need-array-read-t9
-array-read-t9 c = search needs
+shared-slice-read-t4 : tie.Need-shared-slice-read-t4
+shared-slice-read-t4 c = search needs
 
-array-read-t12 : tie.Need-array-read-t12
-array-read-t12 c = search needs
-
-array-read-t15 : tie.Need-array-read-t15
-array-read-t15 c = search needs
-
-array-read-t9-2 : tie.Need-array-read-t9-2
-array-read-t9-2 c = search needs
-
-array-read-t15-2 : tie.Need-array-read-t15-2
-array-read-t15-2 c = search needs
-
-array-read-t12-2 : tie.Need-array-read-t12-2
-array-read-t12-2 c = search needs
-
-array-read-t9-3 : tie.Need-array-read-t9-3
-array-read-t9-3 c = search needs
-
-array-read-t12-3 : tie.Need-array-read-t12-3
-array-read-t12-3 c = search needs
-
-array-read-t15-3 : tie.Need-array-read-t15-3
-array-read-t15-3 c = search needs
-
-array-read-t9-4 : tie.Need-array-read-t9-4
-array-read-t9-4 c = search needs
-
-array-read-t15-4 : tie.Need-array-read-t15-4
-array-read-t15-4 c = search needs
+shared-slice-read-t6 : tie.Need-shared-slice-read-t6
+shared-slice-read-t6 c = search needs
 
 beam-of-requires : tie.Need-beam-of-requires
 beam-of-requires c κs = search needs
 
-array-read-t12-4 : tie.Need-array-read-t12-4
-array-read-t12-4 c = search needs
+plate-of-requires : tie.Need-plate-of-requires
+plate-of-requires c κs = search needs
+
+layout-of-requires : tie.Need-layout-of-requires
+layout-of-requires c κs = search needs
+
+welds-of-requires : tie.Need-welds-of-requires
+welds-of-requires c κs = search needs
+
+shared-slice-read-t12 : tie.Need-shared-slice-read-t12
+shared-slice-read-t12 c = search needs
 
 loads-of-requires : tie.Need-loads-of-requires
 loads-of-requires c κs = search needs
 
 returns : tie.Need-returns
 returns c =
-    let args = c .before .before .args in
-    let face = faceOf (args .t1) (args .levers) in
+    let weld = c .before .before in
+    let beam = weld .before .before .before in
+    let args = beam .before .before .before .before .args in
+    let face = faceOf (now (args .fields)) (args .levers) in
     λ i. record {
       rows = face .rows;
       extended = face .extended;
-      beam = c .before .beam-of .ensures i;
-      plate = face .plate;
-      layout = face .layout;
-      welds = face .welds;
+      beam = beam .beam-of .ensures i;
+      plate = weld .before .before .plate-of .ensures i;
+      layout = weld .before .layout-of .ensures i;
+      welds = weld .welds-of .ensures i;
       «shear_rows» = face .«shear_rows»;
       loads = c .loads-of .ensures i;
       levers = face .levers;
@@ -67,18 +51,12 @@ pub face-of-spec : {M : Type 1} → statement M
 face-of-spec =
     tie.close
     (tie.spec
-    array-read-t9
-    array-read-t12
-    array-read-t15
-    array-read-t9-2
-    array-read-t15-2
-    array-read-t12-2
-    array-read-t9-3
-    array-read-t12-3
-    array-read-t15-3
-    array-read-t9-4
-    array-read-t15-4
+    shared-slice-read-t4
+    shared-slice-read-t6
     beam-of-requires
-    array-read-t12-4
+    plate-of-requires
+    layout-of-requires
+    welds-of-requires
+    shared-slice-read-t12
     loads-of-requires
     returns)

@@ -1,18 +1,23 @@
--- `joint_of` meets its contract: column and face are what their functions ensure, and the bolts are as they stand.
--- Assumes nothing.
-use Rattle.fields.specs.Fields.{boltsOf, jointOf}
+-- `joint_of` meets its contract: column, bolts and face are what their functions ensure. Assumes nothing.
+use Rattle.fields.specs.Fields.{jointOf}
 use borrow.Author.Needs.{needs}
 use Rattle.fields.proofs.joint_of.Statement.{statement}
 use Rattle.fields.proofs.joint_of.Tie as tie
 
-array-read-t7 : tie.Need-array-read-t7
-array-read-t7 c = search needs
-
-array-read-t10 : tie.Need-array-read-t10
-array-read-t10 c = search needs
+slice-aggregate-column-of : tie.Need-slice-aggregate-column-of
+slice-aggregate-column-of c = search needs
 
 column-of-requires : tie.Need-column-of-requires
 column-of-requires c κs = search needs
+
+slice-aggregate-bolts-of : tie.Need-slice-aggregate-bolts-of
+slice-aggregate-bolts-of c = search needs
+
+bolts-of-requires : tie.Need-bolts-of-requires
+bolts-of-requires c κs = search needs
+
+slice-aggregate-face-of : tie.Need-slice-aggregate-face-of
+slice-aggregate-face-of c = search needs
 
 face-of-requires : tie.Need-face-of-requires
 face-of-requires c κs = search needs
@@ -20,8 +25,17 @@ face-of-requires c κs = search needs
 returns : tie.Need-returns
 unfolding jointOf
 returns c =
-    λ i. record { column = c .before .column-of .ensures i; bolts = boltsOf (c .before .before .args .t1); face = c .face-of .ensures i }
+    let bolts = c .before .before in
+    λ i. record { column = bolts .before .before .column-of .ensures i; bolts = bolts .bolts-of .ensures i; face = c .face-of .ensures i }
 
 pub joint-of-spec : {M : Type 1} → statement M
 joint-of-spec =
-    tie.close (tie.spec array-read-t7 array-read-t10 column-of-requires face-of-requires returns)
+    tie.close
+    (tie.spec
+    slice-aggregate-column-of
+    column-of-requires
+    slice-aggregate-bolts-of
+    bolts-of-requires
+    slice-aggregate-face-of
+    face-of-requires
+    returns)
