@@ -1,12 +1,12 @@
 -- The cases of what Allocate answers, as the code's tests tell them apart, and what an answer that is no refusal is.
 -- Assumes nothing.
-use mathlib.Core.Path.{_≡_, refl, sym, ap, _∙_}
+use mathlib.Core.Path.{_≡_, sym, ap, _∙_}
 use mathlib.Core.Bool.{Bool, true, false, cond, not}
 use Prim.Native.Nat.{ℕ, _+_, _-_, _*_, _≤_, _<_}
 use native.Mathlib.Nat.{mul-le-mul}
 use native.Mathlib.Omega.{arith}
 use mathlib.Core.List.{List}
-use lib.ListN.{length, getD, take, replicate}
+use lib.ListN.{length, take, replicate}
 use lib.Seq.{take-at, length-take-le, getD-take}
 use lib.Dec.{leb, ltb}
 use borrow.Author.Tests.{lt-ltb, le-ltb, leb-true, not-false}

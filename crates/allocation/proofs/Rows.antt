@@ -4,7 +4,7 @@
 use mathlib.Core.Path.{_≡_, refl, sym, ap, ap₂, _∙_}
 use mathlib.Core.Logic.{⊎-elim}
 use Prim.Native.Nat.{ℕ, zero, suc, _+_, _-_, _≤_, _<_, min}
-use native.Mathlib.Nat.{le-refl, le-trans, le-step, le-antisymm, le-min, min-le-left, min-le-right, le-suc-iff}
+use native.Mathlib.Nat.{le-refl, le-trans, le-antisymm, le-min, min-le-left, min-le-right, le-suc-iff}
 use native.Mathlib.Omega.{arith}
 use native.Mathlib.Numerals.{add-one}
 use mathlib.Core.List.{List, [], _∷_, _++_}

@@ -4,7 +4,7 @@ use mathlib.Core.Path.{_≡_}
 use Prim.Native.Nat.{ℕ, _+_, _≤_, _<_, min}
 use mathlib.Core.List.{List}
 use lib.ListN.{length, getD}
-use Rattle.sharing.specs.Groups.{groupCount, groupsAbove, listed}
+use Rattle.sharing.specs.Groups.{groupCount, listed}
 use Rattle.sharing.specs.Sharing.{lowered}
 
 -- At most eight rows, a limit for each group, and none so large that a sum could not be held.

@@ -1,7 +1,7 @@
 // Allocate: limits of row groups become row forces (document 01, 'Sharing the force' and 'Allocate').
 // Rows count from 0 here, from 1 in document 01.
 ghost use mathlib.Core.Path.{_≡_};
-ghost use Prim.Native.Nat.{ℕ, _+_, _≤_, _<_};
+ghost use Prim.Native.Nat.{_+_, _≤_, _<_};
 ghost use lib.ListN.{length, take};
 ghost use Rattle.arithmetic.specs.Range.{within};
 ghost use Rattle.joint.specs.Ranges.{rowCounts};

@@ -15,7 +15,7 @@ use Rattle.allocation.specs.Allocation.{noneAbove, eightPlaces, allocated}
 use Rattle.strength.specs.Steel.{steelStrength, steelBearing, weldStrength}
 use Rattle.strength.specs.Bolt.{boltArea, boltTension, boltShear, boltBearing, boltUltimate, pairTension}
 use Rattle.strength.specs.Thickness.{thicknessLimit, tooThick, bothTooThick}
-use Rattle.stubs.specs.Bending.{bending, extensionLength}
+use Rattle.stubs.specs.Bending.{bending}
 use Rattle.stubs.specs.Web.{webTension}
 use Rattle.tension.specs.Limits.{columnFlangeBending, endPlateBending, endPlateLimits, columnWebTension, beamWebLimits, groupLimit}
 use Rattle.compression.specs.Compression.{bearingLength, beamFlange, webBearing, bucklingLimit, webBuckling, panelShear, lesser, governingCheck}
@@ -27,7 +27,7 @@ use Rattle.work.specs.Joint.{governingOf, capOf, forcesOf}
 use Rattle.work.specs.Work.{resultOf, fromThickness, fromLevers, worked}
 use Rattle.items.specs.Digits.{digits}
 use Rattle.items.specs.Items.{spaced}
-use Rattle.line.specs.Line.{resultLine, refusalLine, outcomeLine}
+use Rattle.line.specs.Line.{resultLine, outcomeLine}
 use Rattle.sheets.specs.Sheet.{linesWithin, sheetLines, joined as lines}
 use Rattle.checked.specs.Checked.{Checked, table}
 

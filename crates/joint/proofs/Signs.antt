@@ -1,6 +1,6 @@
 -- What the machine has of a signed number of 32 bits, z, on either side of 0: its bits, and those of -1 - z.
 -- By cases on the sign. Assumes nothing.
-use Prim.Native.Nat.{ℕ, zero, suc, _-_, _^_, _<_}
+use Prim.Native.Nat.{ℕ, suc, _-_, _^_, _<_}
 use mathlib.Core.Path.{_≡_, refl}
 use mathlib.Core.Bool.{true, false}
 use native.Mathlib.Omega.{arith}

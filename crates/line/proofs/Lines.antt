@@ -1,7 +1,7 @@
 -- Lines in a lent buffer: whether one fits, what it is made of, and how long it can be. A line that was put where it fits is what `placed`
 -- says. Assumes nothing.
-use Prim.Native.Nat.{ℕ, _+_, _-_, _*_, _≤_, _<_, min}
-use mathlib.Core.Path.{_≡_, refl, sym, ap, _∙_}
+use Prim.Native.Nat.{ℕ, _+_, _-_, _≤_, min}
+use mathlib.Core.Path.{_≡_, refl, ap, _∙_}
 use mathlib.Core.List.{List, [], _∷_, _++_, map, append-assoc}
 use mathlib.Core.Bool.{Bool, true, false, cond}
 use mathlib.Core.Logic.{⊎-elim}
@@ -9,7 +9,7 @@ use native.Mathlib.Omega.{arith}
 use borrow.Author.Tests.{le-leb, lt-leb, leb-true, eq-eqb, ne-eqb}
 use lib.Dec.{leb, eqb}
 use lib.ListN.{length, take, drop, length-append, length-take}
-use lib.Seq.{sets, sets-eq}
+use lib.Seq.{sets-eq}
 use Rattle.outcome.specs.declared.Outcome.{Outcome}
 use Rattle.arithmetic.proofs.Tests.{split}
 use Rattle.buffers.specs.Put.{Put}

@@ -1,14 +1,14 @@
 -- Testing a joint's rows one after the other, and what the tests tell: levers that fall.
 -- Assumes nothing.
-use mathlib.Core.Path.{_≡_, refl, sym, ap, _∙_}
-use mathlib.Core.Bool.{Bool, true, false, _&&_, _||_}
-use Prim.Native.Nat.{ℕ, zero, suc, _+_, _-_, _≤_, _<_}
+use mathlib.Core.Path.{_≡_, refl, ap, _∙_}
+use mathlib.Core.Bool.{Bool, true, false, _&&_}
+use Prim.Native.Nat.{ℕ, suc, _+_, _-_, _≤_, _<_}
 use native.Mathlib.Numerals.{add-one}
 use native.Mathlib.Omega.{arith}
 use mathlib.Core.List.{List, [], _∷_}
-use lib.ListN.{length, getD, take, drop, length-take, drop-of-length-le}
+use lib.ListN.{length, getD, take, drop, drop-of-length-le}
 use lib.Seq.{drop-cons, length-take-le, getD-take}
-use lib.Dec.{T, ltb, eqb, ltb→lt}
+use lib.Dec.{T, ltb, ltb→lt}
 use borrow.Author.Tests.{lt-ltb, le-ltb, ne-eqb}
 use Rattle.arithmetic.specs.Table.{every}
 use Rattle.arithmetic.proofs.Table.{at}

@@ -1,10 +1,10 @@
 -- The least of f 0 .. f k is at most each of them, and whatever is at most each of them is at most it.
 -- Every fact about `least`, and so about lowering and sharing, goes through these two.
 -- Assumes nothing.
-use mathlib.Core.Path.{_≡_, subst}
+use mathlib.Core.Path.{_≡_}
 use mathlib.Core.Logic.{⊎-elim}
-use Prim.Native.Nat.{ℕ, zero, suc, _≤_, _<_, min}
-use native.Mathlib.Nat.{le-refl, le-trans, le-step, min-le-left, min-le-right, le-min, le-suc-iff, le-antisymm}
+use Prim.Native.Nat.{ℕ, zero, suc, _≤_}
+use native.Mathlib.Nat.{le-refl, le-trans, le-step, min-le-left, min-le-right, le-min, le-suc-iff}
 use native.Mathlib.Omega.{arith}
 use Rattle.sharing.specs.Sharing.{least}
 

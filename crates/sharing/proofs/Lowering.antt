@@ -1,7 +1,7 @@
 -- Lowered limits: at most the limit itself, growing as the group reaches further, and each the lesser of its own limit and the
 -- next longer group's lowered limit, which is how code lowers a row's limits in one pass from the longest group on.
 -- Assumes nothing.
-use mathlib.Core.Path.{_≡_, refl, sym, ap, _∙_}
+use mathlib.Core.Path.{_≡_, sym, ap, _∙_}
 use Prim.Native.Nat.{ℕ, zero, suc, _+_, _-_, _≤_, _<_, min}
 use native.Mathlib.Nat.{le-trans, le-of-eq, le-antisymm, add-suc, suc-add, add-zero, min-le-left, min-le-right, le-min}
 use native.Mathlib.Omega.{arith}

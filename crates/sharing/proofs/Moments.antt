@@ -3,7 +3,7 @@
 -- The recursion goes down the rows with the newtons in hand: by how much the first sum is ahead, held at the lever above.
 -- Moving them down to the next lever loses something unless there are none. Assumes nothing.
 use mathlib.Core.Path.{_≡_, refl, sym, ap, ap₂, _∙_}
-use Prim.Native.Nat.{ℕ, zero, suc, _+_, _-_, _*_, _≤_, _<_}
+use Prim.Native.Nat.{ℕ, suc, _+_, _-_, _*_, _≤_, _<_}
 use native.Mathlib.Nat.{le-refl, add-mul, mul-le-mul-left, mul-lt-mul-of-pos-left, eq-zero-or-pos}
 use native.Mathlib.Omega.{arith}
 use mathlib.Core.Logic.{⊎-elim}

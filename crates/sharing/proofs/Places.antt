@@ -1,8 +1,8 @@
 -- Where the limits of a row's groups stand in a list of n(n+1)÷2 limits: each row's follow those of the row above, and all
 -- have their place. Twice the groups above row i, and the m(m+1) that the m rows from there on make, are n(n+1).
 -- Assumes nothing.
-use mathlib.Core.Path.{_≡_, refl, sym, ap, _∙_}
-use Prim.Native.Nat.{ℕ, zero, suc, _+_, _-_, _*_, _/_, _≤_, _<_}
+use mathlib.Core.Path.{_≡_, sym, ap, _∙_}
+use Prim.Native.Nat.{ℕ, zero, suc, _+_, _-_, _*_, _≤_, _<_}
 use native.Mathlib.Nat.{zero-add, suc-add, add-suc, suc-mul, mul-suc, mul-le-mul, add-zero}
 use native.Mathlib.Numerals.{add-one}
 use native.Mathlib.Decide.{decLe}

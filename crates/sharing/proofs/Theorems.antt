@@ -4,16 +4,16 @@
 use mathlib.Core.Path.{_≡_, refl, sym, ap, _∙_}
 use mathlib.Core.Logic.{⊎-elim, _↔_}
 use mathlib.Core.Bool.{Bool, true, false}
-use Prim.Native.Nat.{ℕ, zero, suc, _+_, _-_, _*_, _≤_, _<_}
-use native.Mathlib.Nat.{le-refl, le-trans, le-of-eq, le-suc-iff, le-antisymm, zero-mul, zero-add}
+use Prim.Native.Nat.{ℕ, zero, suc, _+_, _-_, _≤_, _<_}
+use native.Mathlib.Nat.{le-refl, le-suc-iff, zero-mul, zero-add}
 use native.Mathlib.Decide.{decLe}
 use native.Mathlib.Omega.{arith}
 use mathlib.Core.List.{List}
-use lib.ListN.{length, take, getD}
+use lib.ListN.{take, getD}
 use lib.Seq.{take-all}
 use Rattle.sharing.specs.Groups.{Table, total, groupSum}
-use Rattle.sharing.specs.Sharing.{lowered, forcesDownTo, shared, Competes, moment, Falling}
-use Rattle.sharing.specs.Best.{Best, Monotone}
+use Rattle.sharing.specs.Sharing.{lowered, shared, Competes, moment, Falling}
+use Rattle.sharing.specs.Best.{Best}
 use Rattle.sharing.proofs.Least.{le-least}
 use Rattle.sharing.proofs.Totals.{total-take-le, above-and-group}
 use Rattle.sharing.proofs.Lowering.{lowered-le}

@@ -1,14 +1,14 @@
 -- What `sheets::sheet` says of an output that holds any sheet: all of it was printed, since what printing gives there is the whole sheet.
 -- Assumes nothing.
-use Prim.Native.Nat.{ℕ, _+_, _-_, _≤_}
+use Prim.Native.Nat.{ℕ, _≤_}
 use mathlib.Core.Path.{_≡_, sym, ap, _∙_}
 use mathlib.Core.List.{List}
 use native.Mathlib.Omega.{arith}
-use lib.ListN.{length, drop, length-append, length-drop}
+use lib.ListN.{length, drop, length-append}
 use lib.Seq.{length-take-le}
 use Rattle.numbers.specs.Number.{Bytes}
 use Rattle.sheets.specs.Sheet.{sheetLines, sheetOf, atFront, whole, cut, printing}
-use Rattle.sheets.proofs.Sizes.{sheet-size, sheet-whole}
+use Rattle.sheets.proofs.Sizes.{sheet-whole}
 use Rattle.sheet.specs.Whole.{Whole}
 
 module _ (input output exit : List ℕ) (all : Bytes input) (room : 618355 ≤ length output) where

@@ -1,6 +1,6 @@
 -- Lines put one after another while they fit are what `printing` says: by induction over the lines, a line that fits joins those before it.
 -- Then the walk that puts them: what is left to print where it begins a turn, and that a turn carries it on or ends it. Assumes nothing.
-use Prim.Native.Nat.{ℕ, suc, _+_, _-_, _≤_, _<_}
+use Prim.Native.Nat.{ℕ, _+_, _-_, _≤_, _<_}
 use mathlib.Core.Path.{_≡_, refl, sym, ap, _∙_}
 use mathlib.Core.List.{List, [], _∷_, _++_}
 use mathlib.Core.Bool.{Bool, true, false, cond}
@@ -8,7 +8,7 @@ use native.Mathlib.Omega.{arith}
 use native.Mathlib.Nat.{add-zero, zero-add}
 use borrow.Author.Tests.{le-leb, lt-leb, leb-true, leb-false}
 use lib.Dec.{leb}
-use lib.ListN.{length, take, drop, set, length-append, length-drop, drop-of-length-le}
+use lib.ListN.{length, drop, set, length-append, length-drop, drop-of-length-le}
 use lib.Seq.{sets, sets-eq, length-sets, drop-drop}
 use Rattle.numbers.specs.Number.{Bytes}
 use Rattle.jointfile.specs.File.{reading}

@@ -1,6 +1,6 @@
 -- How long a sheet can be: a file has at least 30 bytes, so there are at most 2184 joints and the line of one refusal, each line of at
 -- most 283 bytes. So 618355 bytes hold any sheet. Assumes nothing.
-use Prim.Native.Nat.{ℕ, zero, suc, _+_, _*_, _≤_, _<_}
+use Prim.Native.Nat.{ℕ, zero, suc, _+_, _*_, _≤_}
 use mathlib.Core.Path.{_≡_, refl}
 use mathlib.Core.List.{List, [], _∷_, _++_}
 use mathlib.Core.Bool.{Bool, true, false, cond, and-eq-true-iff}
@@ -23,7 +23,7 @@ use Rattle.items.specs.Digits.{digits}
 use Rattle.items.specs.Items.{spaced}
 use Rattle.line.proofs.Lines.{refusal-short, outcome-short}
 use Rattle.work.specs.Work.{worked}
-use Rattle.sheets.specs.Sheet.{Line, lineThen, linesWithin, linesOf, overLong, sheetLines, joined, sheetOf, Printing, whole, atFront, printing}
+use Rattle.sheets.specs.Sheet.{lineThen, linesWithin, linesOf, overLong, sheetLines, joined, sheetOf, whole, atFront, printing}
 use Rattle.sheets.proofs.Walk.{bytes-left}
 
 storedAll-long : (xs : List ℕ) → length xs ≤ length (storedAll xs)

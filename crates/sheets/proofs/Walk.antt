@@ -1,13 +1,13 @@
 -- Walking the input: the lines of bytes that aren't all read are the line of what `read` answers of them, and the lines from the place
 -- after it on. The bound on the count of lines never tells, since each joint takes bytes. Assumes nothing.
-use Prim.Native.Nat.{ℕ, zero, suc, _+_, _-_, _≤_, _<_}
-use mathlib.Core.Path.{_≡_, refl, sym, ap, _∙_, subst}
+use Prim.Native.Nat.{ℕ, zero, suc, _+_, _≤_, _<_}
+use mathlib.Core.Path.{_≡_, refl, ap, _∙_, subst}
 use mathlib.Core.List.{List, [], _∷_}
 use mathlib.Core.Bool.{Bool, true, false}
 use native.Mathlib.Omega.{arith}
 use borrow.Author.Tests.{eqb-true, eqb-false, eq-eqb, ne-eqb, lt-ltb, le-ltb}
 use lib.Dec.{eqb}
-use lib.ListN.{length, getD, drop}
+use lib.ListN.{length, drop}
 use lib.Seq.{getD-drop}
 use Rattle.joint.specs.declared.Joint.{Joint}
 use Rattle.numbers.specs.Outcome.{Outcome, got, refused}

@@ -1,5 +1,5 @@
 -- How large a T-stub's figures and lengths are, from those of its parts. Assumes nothing.
-use Prim.Native.Nat.{ℕ, _+_, _*_, _/_, _≤_, min, zero-le}
+use Prim.Native.Nat.{ℕ, _*_, _/_, _≤_, min, zero-le}
 use native.Mathlib.Nat.{le-trans, min-le-left, min-le-right}
 use Rattle.arithmetic.specs.Range.{Within, _to_}
 use Rattle.arithmetic.proofs.Bounds.{exactly, _⊗_, _⊕_, _⊘_, loosen}

@@ -10,7 +10,7 @@ use mathlib.Core.List.{List}
 use lib.ListN.{length, getD, set, length-set, replicate}
 use lib.Seq.{getD-set-same, getD-set-other}
 use Rattle.arithmetic.proofs.Store.{store-keeps}
-use Rattle.sharing.specs.Groups.{Table, groupsAbove, groupCount, listed}
+use Rattle.sharing.specs.Groups.{Table, groupsAbove, listed}
 use Rattle.sharing.proofs.Places.{groups-inside, all-groups, group-count-le, one-group-a-place}
 use Rattle.tension.specs.Admissible.{Filled}
 

@@ -1,15 +1,15 @@
 -- How large a joint's figures are: from the fields' ranges and refusal 13, figure by figure as they are put together.
 -- Assumes nothing.
-use mathlib.Core.Path.{_≡_, refl, sym, ap, subst, _∙_}
+use mathlib.Core.Path.{_≡_, refl}
 use mathlib.Core.Bool.{Bool, true, false, cond}
-use Prim.Native.Nat.{ℕ, zero, suc, _+_, _*_, _/_, _≤_, _<_, min, zero-le}
-use native.Mathlib.Nat.{le-refl, le-trans, le-suc-iff, min-le-left, min-le-right}
+use Prim.Native.Nat.{ℕ, zero, suc, _*_, _≤_, _<_, zero-le}
+use native.Mathlib.Nat.{le-refl, le-trans, le-suc-iff, min-le-left}
 use mathlib.Core.Logic.{⊎-elim}
 use native.Mathlib.Omega.{arith}
-use lib.Dec.{T, eqb, ltb}
+use lib.Dec.{eqb}
 use lib.ListN.{getD}
 use Rattle.arithmetic.specs.Range.{Within, _to_}
-use Rattle.arithmetic.proofs.Bounds.{exactly, _⊗_, _⊕_, _⊘_, loosen, cond-le}
+use Rattle.arithmetic.proofs.Bounds.{exactly, _⊗_, _⊘_, loosen, cond-le}
 use Rattle.joint.specs.declared.Joint.{Joint}
 use Rattle.joint.proofs.InRange.{lever-most}
 use Rattle.strength.specs.Steel.{steelStrengths}

@@ -1,11 +1,11 @@
 -- A group's limit from the figures worked once is document 01's limit: each product is the paper's in another order, and the
 -- limits that apply are counted in the paper's order. Assumes nothing.
-use mathlib.Core.Path.{_≡_, refl, sym, ap, ap₂, _∙_}
+use mathlib.Core.Path.{_≡_, refl, ap, _∙_}
 use mathlib.Core.Bool.{Bool, true, false, cond}
-use Prim.Native.Nat.{ℕ, zero, suc, _+_, _-_, _*_, _/_, _≤_, _<_, min}
-use native.Mathlib.Nat.{mul-assoc, mul-comm, mul-right-comm, mul-le-mul, le-trans, le-refl, min-le-left, min-le-right}
+use Prim.Native.Nat.{ℕ, _*_, _/_, _≤_, min}
+use native.Mathlib.Nat.{mul-comm, mul-le-mul, le-trans, le-refl, min-le-left, min-le-right}
 use native.Mathlib.Omega.{arith}
-use mathlib.Core.List.{List, [], _∷_, _++_}
+use mathlib.Core.List.{[], _∷_, _++_}
 use lib.Dec.{ltb, eqb}
 use borrow.Author.Tests.{ltb-true, ne-eqb}
 use Rattle.arithmetic.proofs.Bounds.{cond-le}
@@ -18,8 +18,7 @@ use Rattle.strength.specs.declared.SteelStrengths.{SteelStrengths}
 use Rattle.spacing.specs.Spacing.{rise}
 use Rattle.spacing.specs.declared.Spacing.{Spacing}
 use Rattle.stubs.specs.Bending.{leastOf, extensionLength, bending}
-use Rattle.stubs.specs.Web.{webTension}
-use Rattle.stubs.specs.Worked.{stubOf, lengthBy, bendingBy, webBy}
+use Rattle.stubs.specs.Worked.{stubOf, lengthBy, bendingBy}
 use Rattle.stubs.specs.declared.Stub.{Stub}
 use Rattle.stubs.proofs.Same.{bending-worked, web-worked, length-worked}
 use Rattle.tension.specs.Limits.{rowsIn, columnFlangeBending, extensionBending, endPlateBending, endPlateLimits, columnWebTension, beamWebLimits, groupLimit}

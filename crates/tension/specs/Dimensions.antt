@@ -1,7 +1,7 @@
 -- What of a joint's group limits is the same for every group, worked once, and a group's limit from it.
 -- Each figure is a factor of document 01's rules; proofs/Worked.antt has the law that the limit comes out as they say.
 -- Assumes nothing.
-use Prim.Native.Nat.{ℕ, _+_, _*_, _/_, min}
+use Prim.Native.Nat.{ℕ, _*_, _/_, min}
 use mathlib.Core.Bool.{cond}
 use lib.Dec.{ltb, eqb}
 use Rattle.arithmetic.specs.Range.{Within, _to_}

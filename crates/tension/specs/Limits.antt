@@ -1,7 +1,7 @@
 -- The limit of a row group (document 01, 'Group limits'): of each check that applies, and the least of those.
 -- Rows count from 0. The first row below the beam flange is row 1 if flush, row 2 if extended: here 0 or 1, as field 2 is; a group
 -- that begins above it begins at the extension row. Assumes nothing.
-use Prim.Native.Nat.{ℕ, suc, _+_, _-_, _*_, _/_, min}
+use Prim.Native.Nat.{ℕ, suc, _-_, _*_, _/_, min}
 use mathlib.Core.Bool.{cond}
 use mathlib.Core.List.{List, [], _∷_, _++_}
 use lib.Dec.{ltb, eqb}

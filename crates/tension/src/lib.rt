@@ -1,7 +1,7 @@
 // The tension side: the limit of every group of bolt rows (document 01, 'Group limits'). Rows count from 0.
 // Lengths are in hundredths of a millimetre. Work calls these for joints that refusals 10 to 13 let pass.
 ghost use mathlib.Core.Path.{_≡_};
-ghost use Prim.Native.Nat.{ℕ, _+_, _-_, _*_, _/_, _≤_, _<_, min};
+ghost use Prim.Native.Nat.{_+_, _-_, _*_, _/_, _<_};
 ghost use mathlib.Core.Bool.{cond};
 ghost use lib.Dec.{eqb};
 ghost use lib.ListN.{getD, replicate};

@@ -5,7 +5,6 @@ use mathlib.Core.Bool.{Bool, cond, _||_}
 use mathlib.Core.List.{List}
 use lib.Dec.{leb, eqb}
 use lib.ListN.{take}
-use Rattle.joint.specs.declared.Beam.{Beam}
 use Rattle.joint.specs.declared.Face.{Face}
 use Rattle.strength.specs.Steel.{steelStrength, weldStrength}
 use Rattle.sharing.specs.Groups.{total}

@@ -11,7 +11,7 @@ ghost use Rattle.strength.specs.Bolt.{boltStrengths, boltBearing};
 ghost use Rattle.strength.specs.Steel.{steelStrength, weldStrength};
 ghost use Rattle.strength.specs.InRange.{BoltInRange};
 ghost use Rattle.verdicts.specs.Bending.{carries};
-ghost use Rattle.verdicts.specs.Bolts.{pairBearing, bearing, idlePair, pullingPair};
+ghost use Rattle.verdicts.specs.Bolts.{bearing, idlePair, pullingPair};
 ghost use Rattle.verdicts.specs.Welds.{flangeWeldBy, webWeldPasses, topRows};
 ghost use Rattle.verdicts.specs.Tally.{tallyOf};
 use arithmetic::least;

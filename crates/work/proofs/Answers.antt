@@ -2,11 +2,11 @@
 -- Assumes nothing.
 use mathlib.Core.Path.{_≡_, refl, sym, ap, _∙_}
 use mathlib.Core.Bool.{Bool, true, false, cond, not, _&&_, _||_}
-use Prim.Native.Nat.{ℕ, _≤_, _<_}
+use Prim.Native.Nat.{ℕ}
 use native.Mathlib.Omega.{arith}
-use lib.ListN.{length, getD, take}
-use lib.Dec.{ltb, eqb}
-use borrow.Author.Tests.{ltb-false, eq-eqb, not-true, not-false}
+use lib.ListN.{length}
+use lib.Dec.{ltb}
+use borrow.Author.Tests.{ltb-false, eq-eqb}
 use Rattle.joint.specs.InRange.{InRange}
 use Rattle.joint.specs.declared.Joint.{Joint}
 use Rattle.strength.specs.Bolt.{boltStrengths}

@@ -1,11 +1,10 @@
 -- Demand 3 of a joint's result: its forces are shared under the limits with the cap joined, so they are the best of the lists that
 -- keep both (the theorems of `sharing`), and a larger moment carries what a smaller one does. Assumes nothing.
-use mathlib.Core.Path.{_≡_, refl, sym, ap, subst, _∙_}
-use mathlib.Core.Bool.{false}
-use Prim.Native.Nat.{ℕ, suc, _≤_, _<_}
+use mathlib.Core.Path.{_≡_, sym, ap, _∙_}
+use Prim.Native.Nat.{ℕ, suc, _≤_}
 use native.Mathlib.Omega.{arith}
 use mathlib.Core.List.{List}
-use lib.ListN.{length, getD, take}
+use lib.ListN.{length}
 use lib.Seq.{length-take-le, getD-take}
 use Rattle.joint.specs.declared.Joint.{Joint}
 use Rattle.joint.proofs.InRange.{row-lever}
@@ -17,7 +16,6 @@ use Rattle.sharing.proofs.Cap.{cap-is-a-limit}
 use Rattle.tension.specs.Admissible.{Admissible}
 use Rattle.verdicts.specs.Bending.{carries}
 use Rattle.verdicts.proofs.Signs.{carries-monotone}
-use Rattle.outcome.specs.declared.Outcome.{Outcome}
 use Rattle.work.specs.Joint.{rowsOf, leversOf, limitOf, capOf, forcesOf, carriesOf}
 use Rattle.work.specs.Work.{resultOf}
 use Rattle.work.proofs.Forces.{rows-kept}

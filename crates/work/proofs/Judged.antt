@@ -1,6 +1,6 @@
 -- The verdicts on a joint's own forces, from what the code counts of its eight places.
 -- Assumes nothing.
-use mathlib.Core.Path.{_≡_, refl, sym, ap, ap₂, _∙_}
+use mathlib.Core.Path.{_≡_, refl, ap, ap₂, _∙_}
 use mathlib.Core.Bool.{cond}
 use Prim.Native.Nat.{ℕ, zero, suc, _+_, _-_, _*_, _≤_}
 use native.Mathlib.Omega.{arith}
@@ -12,7 +12,7 @@ use Rattle.sharing.specs.Groups.{total, joined}
 use Rattle.sharing.proofs.Theorems.{best}
 use Rattle.allocation.specs.Allocation.{eightPlaces}
 use Rattle.verdicts.specs.Tally.{pullingRows}
-use Rattle.verdicts.specs.Bolts.{idlePair, pullingPair, boltTotal, boltsPass}
+use Rattle.verdicts.specs.Bolts.{idlePair, pullingPair, boltsPass}
 use Rattle.verdicts.specs.Welds.{topRows}
 use Rattle.verdicts.proofs.Tallying.{pulling-le-length, total-by-kind}
 use Rattle.work.specs.Joint.{rowsOf, limitOf, capOf, forcesOf}

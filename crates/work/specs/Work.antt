@@ -1,7 +1,7 @@
 -- Working a joint (document 01, 'Work'): the refusals in their order, and else the whole result.
 -- Assumes nothing.
 use Prim.Native.Nat.{ℕ}
-use mathlib.Core.Bool.{Bool, false, cond, not}
+use mathlib.Core.Bool.{false, cond, not}
 use lib.Dec.{eqb}
 use lib.ListN.{replicate}
 use Rattle.joint.specs.Fields.{fieldCheck, refusalOf, fieldOf}
@@ -18,7 +18,6 @@ use Rattle.compression.specs.declared.CompressionCheck.the-variants.{Flange}
 use Rattle.refusals.specs.Refusals.{leversFall, rowsInPlace, tooTight, overCompressed}
 use Rattle.work.specs.Joint.{steelOf, governingOf, capOf, forcesOf, momentOf, verdictsOf}
 use Rattle.outcome.specs.declared.Outcome.{Outcome}
-use Rattle.outcome.specs.declared.Verdicts.{Verdicts}
 
 -- 'In a refusal forces, sum, newton metres, cap and governing force are 0, the check named is F, verdicts are no, and the field
 -- number is 0 but for 10.'

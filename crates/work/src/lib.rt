@@ -2,7 +2,7 @@
 // verdicts. Rows count from 0.
 ghost use mathlib.Core.Path.{_≡_};
 ghost use Prim.Native.Nat.{ℕ, _≤_};
-ghost use lib.ListN.{length, getD, take};
+ghost use lib.ListN.{getD};
 ghost use Rattle.joint.specs.InRange.{InRange};
 ghost use Rattle.strength.specs.Bolt.{boltStrengths};
 ghost use Rattle.sharing.specs.Groups.{joined};

@@ -1,7 +1,6 @@
 -- `allocate` meets its contract: each return is one case of the definition (the laws of `Answers`), and of whatever it
 -- answers, no refusal means the best forces. Assumes nothing.
-use mathlib.Core.Path.{_≡_, refl, sym, ap, _∙_}
-use native.Mathlib.Nat.{le-trans}
+use mathlib.Core.Path.{sym, _∙_}
 use native.Mathlib.Omega.{arith}
 use borrow.Author.Needs.{needs}
 use lib.Seq.{length-take-le}

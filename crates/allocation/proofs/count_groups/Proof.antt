@@ -1,13 +1,12 @@
 -- `count_groups` meets its contract. The invariant: `lowered` is the lowered limit of the group that ends at row `last`, and
 -- the longer groups are counted. The measure is `last`. Assumes nothing.
-use mathlib.Core.Path.{_≡_, refl, sym, ap, _∙_}
-use Prim.Native.Nat.{ℕ, suc, _+_, _-_, _≤_, _<_, min}
+use mathlib.Core.Path.{_≡_, sym, ap, _∙_}
+use Prim.Native.Nat.{suc, _-_, _≤_, _<_}
 use native.Mathlib.Omega.{arith}
 use borrow.Author.Needs.{needs}
-use lib.ListN.{length, getD}
 use Rattle.sharing.specs.Groups.{listed}
 use Rattle.sharing.specs.Sharing.{lowered as loweredLimit}
-use Rattle.allocation.specs.Steps.{Shareable, Counted}
+use Rattle.allocation.specs.Steps.{Counted}
 use Rattle.allocation.proofs.Counting.{place-inside, lowered-le-most, lowest, lower, none-counted, one-more}
 use Rattle.allocation.proofs.count_groups.Statement.{statement}
 use Rattle.allocation.proofs.count_groups.Tie as tie

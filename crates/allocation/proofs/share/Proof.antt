@@ -1,9 +1,7 @@
 -- `share` meets its contract: each turn gives one row its force (the law `turn`). The measure is how many rows are left.
 -- Assumes nothing.
-use mathlib.Core.Path.{_≡_, refl, sym, _∙_}
-use Prim.Native.Nat.{_-_, _≤_}
+use Prim.Native.Nat.{_-_}
 use native.Mathlib.Omega.{arith}
-use borrow.Author.Needs.{needs}
 use Rattle.sharing.proofs.Places.{groups-inside}
 use Rattle.allocation.proofs.Rows.{SharedDownTo, sum-le-most, start, down-grows, turn, finish}
 use Rattle.allocation.proofs.share.Statement.{statement}

@@ -1,10 +1,10 @@
 -- `joint::axial_force` meets its contract: on either sign the machine's number is n of `pos n` or `negsuc n`.
 -- Assumes nothing.
-use mathlib.Core.Path.{_≡_, sym, ap, _∙_}
+use mathlib.Core.Path.{sym, ap, _∙_}
 use native.Mathlib.Numerals.{add-one}
 use native.Mathlib.Omega.{arith}
 use Rattle.joint.specs.Axial.{axialForce}
-use Rattle.joint.specs.declared.AxialForce.the-variants.{Compression, Tension}
+use Rattle.joint.specs.declared.AxialForce.the-variants.{Tension}
 use Rattle.joint.proofs.Signs.{Negative, negative, Positive, positive}
 use Rattle.joint.proofs.axial_force.Statement.{statement}
 use Rattle.joint.proofs.axial_force.Tie as tie

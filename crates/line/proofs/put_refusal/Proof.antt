@@ -1,6 +1,6 @@
 -- `put_refusal` meets its contract: the joint's number, R, the numbers told and the line feed are put one after the other.
 -- Assumes nothing.
-use Prim.Native.Nat.{_+_, _≤_, _<_}
+use Prim.Native.Nat.{_+_, _≤_}
 use mathlib.Core.List.{[], _∷_, _++_}
 use native.Mathlib.Omega.{arith}
 use denote.Ref.{now}

@@ -1,8 +1,7 @@
 -- `levers_fall` meets its contract: the rows left decide what all of them do (the laws of `Rows`). Assumes nothing.
-use mathlib.Core.Path.{_≡_, refl, sym, ap, _∙_}
-use Prim.Native.Nat.{_-_, _≤_, _<_}
+use mathlib.Core.Path.{_≡_, sym, _∙_}
+use Prim.Native.Nat.{_-_, _<_}
 use native.Mathlib.Omega.{arith}
-use mathlib.Core.Bool.{true, false}
 use lib.ListN.{length, take, drop}
 use Rattle.arithmetic.specs.Table.{every}
 use Rattle.refusals.specs.Refusals.{belowAbove}

@@ -1,5 +1,5 @@
 -- `tension_cap` meets its contract: the cap's cases by the sign of N (the laws of `Capped`). Assumes nothing.
-use mathlib.Core.Path.{_≡_, refl, sym, ap, _∙_}
+use mathlib.Core.Path.{_≡_}
 use Rattle.joint.specs.Axial.{axialForce}
 use Rattle.joint.proofs.Axial.{case-of}
 use Rattle.joint.specs.declared.AxialForce.the-variants.{Compression, Tension}

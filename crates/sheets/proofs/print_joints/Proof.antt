@@ -12,7 +12,7 @@ use Rattle.jointfile.specs.declared.Reading.{Reading}
 use Rattle.line.specs.Line.{placed, writtenTold}
 use Rattle.line.specs.declared.Written.{Written}
 use Rattle.sheets.specs.Sheet.{readingLine}
-use Rattle.sheets.proofs.Prints.{WalkHead, walk-start, walk-room, walk-on, walk-onward, walk-short, walk-done}
+use Rattle.sheets.proofs.Prints.{WalkHead, walk-start, walk-on, walk-onward, walk-short, walk-done}
 use Rattle.sheets.proofs.print_joints.Statement.{statement}
 use Rattle.sheets.proofs.print_joints.Tie as tie
 

@@ -1,7 +1,5 @@
 -- `bending` meets its contract: the products fit, since the stub's figures are bounded. Assumes nothing.
-use mathlib.Core.Path.{_≡_, refl, sym, ap, _∙_}
-use Prim.Native.Nat.{ℕ, min}
-use Rattle.arithmetic.proofs.Bounds.{exactly, _⊗_, _⊕_, _⊘_, fits}
+use Rattle.arithmetic.proofs.Bounds.{_⊗_, _⊕_, fits}
 use Rattle.stubs.specs.Worked.{bendingBy}
 use borrow.Author.Needs.{needs}
 use Rattle.stubs.proofs.bending.Statement.{statement}

@@ -1,10 +1,8 @@
 -- `stub_of` meets its contract: the products fit, since its parts are bounded. Assumes nothing.
-use mathlib.Core.Path.{_≡_, refl, sym, ap, _∙_}
-use Prim.Native.Nat.{_*_, _+_, zero-le}
-use native.Mathlib.Nat.{le-trans, min-le-left}
+use Prim.Native.Nat.{zero-le}
 use native.Mathlib.Omega.{arith}
 use Rattle.arithmetic.specs.Range.{Within, _to_}
-use Rattle.arithmetic.proofs.Bounds.{exactly, _⊗_, _⊕_, _⊘_, fits}
+use Rattle.arithmetic.proofs.Bounds.{exactly, _⊗_, fits}
 use Rattle.stubs.specs.Worked.{stubOf}
 use borrow.Author.Needs.{needs}
 use Rattle.stubs.proofs.stub_of.Statement.{statement}

@@ -1,5 +1,5 @@
 -- `web_tension` meets its contract: the product fits. Assumes nothing.
-use Rattle.arithmetic.proofs.Bounds.{exactly, _⊗_, _⊕_, _⊘_, fits}
+use Rattle.arithmetic.proofs.Bounds.{exactly, _⊗_, _⊕_, fits}
 use borrow.Author.Needs.{needs}
 use Rattle.stubs.proofs.web_tension.Statement.{statement}
 use Rattle.stubs.proofs.web_tension.Tie as tie

@@ -1,5 +1,5 @@
 -- `column_limit` meets its contract: the effective length, and bending over it. Assumes nothing.
-use mathlib.Core.Path.{_≡_, refl, sym, ap, _∙_}
+use mathlib.Core.Path.{ap, _∙_}
 use Rattle.stubs.specs.Worked.{bendingBy}
 use Rattle.tension.specs.Dimensions.{columnBy}
 use borrow.Author.Needs.{needs}

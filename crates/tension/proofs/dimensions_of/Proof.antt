@@ -1,9 +1,9 @@
 -- `dimensions_of` meets its contract, figure by figure: what was measured is what the definitions say. Assumes nothing.
-use mathlib.Core.Path.{_≡_, refl, sym, ap, _∙_}
-use Prim.Native.Nat.{ℕ, _*_, _/_}
+use mathlib.Core.Path.{_∙_}
+use Prim.Native.Nat.{_*_, _/_}
 use native.Mathlib.Nat.{mul-comm}
 use native.Mathlib.Omega.{arith}
-use Rattle.arithmetic.specs.Range.{Within, _to_}
+use Rattle.arithmetic.specs.Range.{_to_}
 use Rattle.arithmetic.proofs.Bounds.{loosen, exactly}
 use Rattle.stubs.specs.Worked.{lengthsOf}
 use Rattle.tension.specs.Dimensions.{dimensionsOf}

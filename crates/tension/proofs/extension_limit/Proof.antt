@@ -1,11 +1,9 @@
 -- `extension_limit` meets its contract: 0 if flush, else bending of the extension's own stub. Assumes nothing.
-use mathlib.Core.Path.{_≡_, refl, sym, ap, _∙_}
 use Prim.Native.Nat.{zero-le}
 use native.Mathlib.Omega.{arith}
 use borrow.Author.Tests.{eq-eqb, ne-eqb}
-use Rattle.arithmetic.specs.Range.{Within, _to_}
+use Rattle.arithmetic.specs.Range.{_to_}
 use Rattle.arithmetic.proofs.Bounds.{loosen, exactly}
-use Rattle.stubs.specs.Bending.{extensionLength}
 use Rattle.stubs.proofs.Sizes.{stub-within, extension-length-le}
 use Rattle.tension.proofs.Sizes.{sizes, edge-field-le, extension-parts}
 use Rattle.tension.proofs.Worked.{extension-worked}

@@ -1,11 +1,9 @@
 -- `fill_limits` meets its contract: each turn stores one group's limit and goes on to the next group (the laws of `Filling`).
 -- The measure counts the rows left, then the groups left in the row. Assumes nothing.
-use mathlib.Core.Path.{_≡_, refl, sym, ap, _∙_}
-use Prim.Native.Nat.{ℕ, suc, _+_, _-_, _*_, _≤_, _<_, zero-le}
+use mathlib.Core.Path.{_≡_, ap, _∙_}
+use Prim.Native.Nat.{ℕ, suc, _+_, _-_, _*_, zero-le}
 use native.Mathlib.Omega.{arith}
-use borrow.Author.Needs.{needs}
 use lib.ListN.{getD}
-use Rattle.arithmetic.specs.Range.{Within, _to_}
 use Rattle.sharing.specs.Groups.{Table}
 use Rattle.tension.specs.Limits.{rowsIn}
 use Rattle.tension.specs.Dimensions.{limitBy}

@@ -1,5 +1,5 @@
 -- `group_limit` meets its contract: column flange, then the plate, then the webs. Assumes nothing.
-use mathlib.Core.Path.{_≡_, refl, sym, ap, _∙_}
+use mathlib.Core.Path.{ap, _∙_}
 use Rattle.tension.specs.Dimensions.{plateBy, websBy, limitBy}
 use borrow.Author.Needs.{needs}
 use Rattle.tension.proofs.group_limit.Statement.{statement}

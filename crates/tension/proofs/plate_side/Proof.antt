@@ -1,5 +1,4 @@
 -- `plate_side` meets its contract, by its one test. Assumes nothing.
-use mathlib.Core.Path.{_≡_, refl, sym, ap, _∙_}
 use borrow.Author.Tests.{eq-eqb, ne-eqb}
 use Rattle.tension.proofs.plate_side.Statement.{statement}
 use Rattle.tension.proofs.plate_side.Tie as tie

@@ -1,5 +1,5 @@
 -- `times` meets its contract: the product fits. Assumes nothing.
-use Rattle.arithmetic.proofs.Bounds.{exactly, _⊗_, _⊕_, _⊘_, fits}
+use Rattle.arithmetic.proofs.Bounds.{_⊗_, fits}
 use borrow.Author.Needs.{needs}
 use Rattle.tension.proofs.times.Statement.{statement}
 use Rattle.tension.proofs.times.Tie as tie

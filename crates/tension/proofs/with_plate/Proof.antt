@@ -1,7 +1,7 @@
 -- `with_plate` meets its contract: at each return the tests say which rule of the plate applies. Assumes nothing.
 use Rattle.tension.proofs.Sizes.{plate-side-le}
-use mathlib.Core.Path.{_≡_, refl, sym, ap, _∙_}
-use Prim.Native.Nat.{ℕ, min}
+use mathlib.Core.Path.{ap, _∙_}
+use Prim.Native.Nat.{min}
 use native.Mathlib.Omega.{arith}
 use borrow.Author.Tests.{lt-ltb, le-ltb, eq-eqb, ne-eqb}
 use Rattle.stubs.specs.Worked.{bendingBy, lengthBy}

@@ -1,6 +1,6 @@
 -- `with_webs` meets its contract: the beam web counts only below the first row under the flange. Assumes nothing.
-use mathlib.Core.Path.{_≡_, refl, sym, ap, _∙_}
-use Prim.Native.Nat.{ℕ, min}
+use mathlib.Core.Path.{ap, _∙_}
+use Prim.Native.Nat.{min}
 use borrow.Author.Tests.{lt-ltb, le-ltb}
 use Rattle.tension.specs.Dimensions.{websBy}
 use borrow.Author.Needs.{needs}

@@ -1,9 +1,8 @@
 -- `bearing_of` meets its contract: the lower strength on each part, then the lesser bearing. Assumes nothing.
-use mathlib.Core.Path.{_≡_, refl, sym, ap, _∙_}
 use Prim.Native.Nat.{zero-le}
 use native.Mathlib.Omega.{arith}
-use Rattle.arithmetic.specs.Range.{Within, _to_}
-use Rattle.arithmetic.proofs.Bounds.{exactly, _⊗_, _⊕_, _⊘_, fits, loosen}
+use Rattle.arithmetic.specs.Range.{_to_}
+use Rattle.arithmetic.proofs.Bounds.{loosen}
 use Rattle.strength.proofs.Ranges.{diameter-range, steel-bearing-range}
 use Rattle.verdicts.specs.Bolts.{bearing}
 use borrow.Author.Needs.{needs}

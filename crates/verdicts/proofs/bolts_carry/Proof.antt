@@ -1,8 +1,7 @@
 -- `bolts_carry` meets its contract: shear and bearing of a pair, then the pairs' total. Assumes nothing.
-use mathlib.Core.Path.{_≡_, refl, sym, ap, _∙_}
-use Prim.Native.Nat.{ℕ, zero-le}
-use Rattle.arithmetic.specs.Range.{Within, _to_}
-use Rattle.arithmetic.proofs.Bounds.{exactly, _⊗_, _⊕_, _⊘_, fits, loosen}
+use mathlib.Core.Path.{ap}
+use Rattle.arithmetic.specs.Range.{_to_}
+use Rattle.arithmetic.proofs.Bounds.{exactly, _⊗_, _⊘_, loosen}
 use Rattle.strength.specs.InRange.{BoltInRange}
 use Rattle.strength.proofs.Ranges.{bolt-in-range}
 use Rattle.verdicts.specs.Bolts.{idlePair, pullingPair}

@@ -1,7 +1,7 @@
 -- `carries_moment` meets its contract: on either sign of N the rule is the one in whole numbers with a sign (the laws of `Signs`).
 -- Assumes nothing.
-use mathlib.Core.Path.{_≡_, refl, sym, ap, _∙_}
-use Prim.Native.Nat.{ℕ, _+_, _-_, _*_, _≤_}
+use mathlib.Core.Path.{_≡_}
+use Prim.Native.Nat.{ℕ, _-_, _*_, _≤_}
 use native.Mathlib.Nat.{mul-le-mul}
 use native.Mathlib.Omega.{arith}
 use Rattle.joint.specs.Axial.{axialForce}

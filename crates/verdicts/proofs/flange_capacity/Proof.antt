@@ -1,5 +1,5 @@
 -- `flange_capacity` meets its contract: the products fit. Assumes nothing.
-use Rattle.arithmetic.proofs.Bounds.{exactly, _⊗_, _⊕_, _⊘_, fits}
+use Rattle.arithmetic.proofs.Bounds.{_⊗_, fits}
 use borrow.Author.Needs.{needs}
 use Rattle.verdicts.proofs.flange_capacity.Statement.{statement}
 use Rattle.verdicts.proofs.flange_capacity.Tie as tie

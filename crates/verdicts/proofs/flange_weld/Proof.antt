@@ -1,9 +1,8 @@
 -- `flange_weld` meets its contract: by its full strength, or by what it carries. Assumes nothing.
-use mathlib.Core.Path.{_≡_, refl, sym, ap, _∙_}
 use native.Mathlib.Omega.{arith}
 use borrow.Author.Tests.{le-leb, lt-leb}
-use Rattle.arithmetic.specs.Range.{Within, _to_}
-use Rattle.arithmetic.proofs.Bounds.{exactly, _⊗_, _⊕_, _⊘_, fits, loosen}
+use Rattle.arithmetic.specs.Range.{_to_}
+use Rattle.arithmetic.proofs.Bounds.{loosen}
 use Rattle.strength.proofs.Ranges.{weld-range, steel-range}
 use Rattle.verdicts.specs.Welds.{flangeWeldBy}
 use borrow.Author.Needs.{needs}

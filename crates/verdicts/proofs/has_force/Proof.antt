@@ -1,5 +1,4 @@
 -- `has_force` meets its contract, by its one test. Assumes nothing.
-use mathlib.Core.Path.{_≡_, refl, sym, ap, _∙_}
 use borrow.Author.Tests.{eq-eqb, ne-eqb}
 use Rattle.verdicts.proofs.has_force.Statement.{statement}
 use Rattle.verdicts.proofs.has_force.Tie as tie

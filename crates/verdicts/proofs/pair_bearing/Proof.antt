@@ -1,5 +1,5 @@
 -- `pair_bearing` meets its contract: the products fit. Assumes nothing.
-use Rattle.arithmetic.proofs.Bounds.{exactly, _⊗_, _⊕_, _⊘_, fits}
+use Rattle.arithmetic.proofs.Bounds.{_⊗_, fits}
 use borrow.Author.Needs.{needs}
 use Rattle.verdicts.proofs.pair_bearing.Statement.{statement}
 use Rattle.verdicts.proofs.pair_bearing.Tie as tie

@@ -1,5 +1,5 @@
 -- `pair_shear` meets its contract: the product fits. Assumes nothing.
-use Rattle.arithmetic.proofs.Bounds.{exactly, _⊗_, _⊕_, _⊘_, fits}
+use Rattle.arithmetic.proofs.Bounds.{exactly, _⊗_, fits}
 use borrow.Author.Needs.{needs}
 use Rattle.verdicts.proofs.pair_shear.Statement.{statement}
 use Rattle.verdicts.proofs.pair_shear.Tie as tie

@@ -1,9 +1,8 @@
 -- `pairs_total` meets its contract: a pair counts at most its shear, so the products fit. Assumes nothing.
-use mathlib.Core.Path.{_≡_, refl, sym, ap, _∙_}
-use Prim.Native.Nat.{ℕ, _+_, _*_, zero-le}
+use Prim.Native.Nat.{zero-le}
 use native.Mathlib.Omega.{arith}
 use Rattle.arithmetic.specs.Range.{Within, _to_}
-use Rattle.arithmetic.proofs.Bounds.{exactly, _⊗_, _⊕_, _⊘_, fits}
+use Rattle.arithmetic.proofs.Bounds.{_⊗_, _⊕_, fits}
 use borrow.Author.Needs.{needs}
 use Rattle.verdicts.proofs.pairs_total.Statement.{statement}
 use Rattle.verdicts.proofs.pairs_total.Tie as tie

@@ -1,5 +1,4 @@
 -- `top_rows` meets its contract: the first rows of a list, one by one. Assumes nothing.
-use mathlib.Core.Path.{_≡_, refl, sym, ap, _∙_}
 use native.Mathlib.Omega.{arith}
 use borrow.Author.Tests.{eq-eqb, ne-eqb}
 use Rattle.verdicts.specs.Welds.{topRows}

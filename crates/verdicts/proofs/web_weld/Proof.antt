@@ -1,8 +1,6 @@
 -- `web_weld` meets its contract. Assumes nothing.
-use mathlib.Core.Path.{_≡_, refl, sym, ap, _∙_}
-use lib.Dec.{leb}
-use Rattle.arithmetic.specs.Range.{Within, _to_}
-use Rattle.arithmetic.proofs.Bounds.{exactly, _⊗_, _⊕_, _⊘_, fits, loosen}
+use Rattle.arithmetic.specs.Range.{_to_}
+use Rattle.arithmetic.proofs.Bounds.{loosen}
 use Rattle.strength.proofs.Ranges.{weld-range}
 use Rattle.verdicts.specs.Welds.{webWeldPasses}
 use borrow.Author.Needs.{needs}

@@ -1,5 +1,5 @@
 -- `weld_capacity` meets its contract: the products fit. Assumes nothing.
-use Rattle.arithmetic.proofs.Bounds.{exactly, _⊗_, _⊕_, _⊘_, fits}
+use Rattle.arithmetic.proofs.Bounds.{exactly, _⊗_, fits}
 use borrow.Author.Needs.{needs}
 use Rattle.verdicts.proofs.weld_capacity.Statement.{statement}
 use Rattle.verdicts.proofs.weld_capacity.Tie as tie

@@ -1,11 +1,9 @@
 -- `judge` meets its contract, verdict by verdict (the laws of `Judged`). Assumes nothing.
-use mathlib.Core.Path.{_≡_, refl, sym, ap, _∙_}
-use Prim.Native.Nat.{ℕ, zero-le}
+use mathlib.Core.Path.{refl, ap, _∙_}
+use Prim.Native.Nat.{zero-le}
 use native.Mathlib.Omega.{arith}
-use Rattle.arithmetic.specs.Range.{Within, _to_}
 use Rattle.verdicts.specs.Bending.{carries}
 use Rattle.verdicts.specs.Welds.{flangeWeldBy, topRows}
-use Rattle.work.specs.Joint.{verdictsOf}
 use Rattle.work.proofs.Judged.{top-judged, pulling-le, bolts-judged}
 use borrow.Author.Needs.{needs}
 use Rattle.work.proofs.judge.Statement.{statement}

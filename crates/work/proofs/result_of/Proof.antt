@@ -1,6 +1,6 @@
 -- `result_of` meets its contract: the forces, what they come to, and the verdicts on them. Assumes nothing.
-use mathlib.Core.Path.{_≡_, refl, sym, ap, _∙_}
-use Prim.Native.Nat.{ℕ, _/_}
+use mathlib.Core.Path.{_≡_, ap, _∙_}
+use Prim.Native.Nat.{_/_}
 use lib.ListN.{take}
 use Rattle.sharing.specs.Groups.{joined}
 use Rattle.sharing.specs.Sharing.{shared, newtonMetres}

@@ -1,6 +1,5 @@
 -- `row_forces` meets its contract: the cap is stored on group 1 to n, and the table shares alike (the laws of `Forces`). Assumes nothing.
-use mathlib.Core.Path.{_≡_, refl, sym, ap, _∙_}
-use native.Mathlib.Omega.{arith}
+use mathlib.Core.Path.{ap, _∙_}
 use Rattle.allocation.specs.Allocation.{eightPlaces}
 use Rattle.work.proofs.Forces.{forces-agree, shareable, force-small}
 use borrow.Author.Needs.{needs}

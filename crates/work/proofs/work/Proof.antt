@@ -1,7 +1,6 @@
 -- `work` meets its contract: a field out of range is refusal 10, and else what the levers and all after them say. Assumes nothing.
-use mathlib.Core.Path.{_≡_, refl, sym, ap, _∙_}
+use mathlib.Core.Path.{sym, ap, _∙_}
 use native.Mathlib.Omega.{arith}
-use Rattle.joint.specs.Fields.{fieldCheck}
 use Rattle.joint.proofs.InRange.{in-range}
 use Rattle.work.specs.Work.{afterFields, fromLevers, worked}
 use Rattle.work.proofs.Answers.{refusal-is}

@@ -1,14 +1,12 @@
 -- `work_levers` meets its contract: each return is one case of the definition, and no refusal means demand 3 (the laws of `Answers`
 -- and `Best`). Assumes nothing.
-use mathlib.Core.Path.{_≡_, refl, sym, ap, _∙_}
+use mathlib.Core.Path.{_≡_, sym, ap, _∙_}
 use native.Mathlib.Omega.{arith}
-use mathlib.Core.Bool.{Bool, true, false}
 use borrow.Author.Tests.{not-false}
 use Rattle.joint.proofs.InRange.{lever-most}
 use Rattle.spacing.specs.Spacing.{spacingOf}
 use Rattle.tension.specs.Admissible.{Admissible}
 use Rattle.refusals.specs.Refusals.{leversFall, tooTight}
-use Rattle.work.specs.Demand.{Demand3}
 use Rattle.work.proofs.Answers.{admissible, refused-by-11, refused-by-12, refused-by-13, passed-13, refusal-is, whole-result}
 use Rattle.work.proofs.Best.{demand}
 use borrow.Author.Needs.{needs}

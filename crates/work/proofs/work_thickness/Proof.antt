@@ -1,9 +1,8 @@
 -- `work_thickness` meets its contract: each return is one case of the definition (the laws of `Answers`). Assumes nothing.
-use mathlib.Core.Path.{_≡_, refl, sym, ap, _∙_}
-use Prim.Native.Nat.{ℕ, _≤_}
+use mathlib.Core.Path.{_≡_, sym, ap, _∙_}
+use Prim.Native.Nat.{_≤_}
 use native.Mathlib.Omega.{arith}
 use Rattle.strength.specs.Thickness.{bothTooThick}
-use Rattle.strength.specs.InRange.{SteelInRange, BoltInRange}
 use Rattle.strength.specs.Bolt.{boltStrengths}
 use Rattle.strength.proofs.Ranges.{steel-in-range, bolt-in-range}
 use Rattle.compression.specs.Compression.{forceOf, governingCheck}

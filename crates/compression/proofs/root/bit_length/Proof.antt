@@ -1,7 +1,7 @@
 -- `compression::root::bit_length` meets its contract: the zeros above x's highest set bit, and x's length, make 64.
 -- Assumes nothing.
 use mathlib.Core.Path.{_≡_, subst, sym}
-use Prim.Native.Nat.{ℕ, suc, _-_}
+use Prim.Native.Nat.{suc, _-_}
 use native.Mathlib.Omega.{arith}
 use borrow.Author.Needs.{needs}
 use lib.Count.{leadingZeros, leading-le, leading-top}
