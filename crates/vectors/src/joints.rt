@@ -6,9 +6,13 @@ use crate::tell::are_items;
 use crate::tell::bad_record;
 use compression::CompressionCheck;
 use outcome::Outcome;
+ghost use mathlib.Core.Path.{_≡_};
+ghost use Rattle.vectors.specs.Answers.{checkNumber, outcomeItems};
 
 // The letters F, B, K, S of a compression check, counted from 1.
-pub fn check_number(check: CompressionCheck) -> u64 {
+pub fn check_number(check: CompressionCheck) -> u64
+    ensures { λ r. ⌜ r ≡ checkNumber check ⌝ }
+{
     match check {
         CompressionCheck::Flange(_) => 1,
         CompressionCheck::Bearing(_) => 2,
@@ -18,7 +22,9 @@ pub fn check_number(check: CompressionCheck) -> u64 {
 }
 
 // Refusal, field, eight forces, sum, newton metres, cap, check and its newtons, four verdicts.
-fn items_of(outcome: Outcome) -> [u64; 19] {
+fn items_of(outcome: Outcome) -> [u64; 19]
+    ensures { λ r. ⌜ r ≡ outcomeItems outcome ⌝ }
+{
     let forces = outcome.forces;
     let verdicts = outcome.verdicts;
     let check = outcome.check;

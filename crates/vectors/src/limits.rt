@@ -5,9 +5,13 @@ use crate::stored::is_end;
 use crate::tell::are_items;
 use crate::tell::bad_record;
 use allocation::Allocation;
+ghost use mathlib.Core.Path.{_≡_};
+ghost use Rattle.vectors.specs.Answers.{allocationItems};
 
 // Refusal and eight forces.
-fn items_of(allocation: Allocation) -> [u64; 9] {
+fn items_of(allocation: Allocation) -> [u64; 9]
+    ensures { λ r. ⌜ r ≡ allocationItems allocation ⌝ }
+{
     let forces = allocation.forces;
     [
         allocation.refusal as u64,
