@@ -19,7 +19,8 @@ pub items-listed : (o : Outcome) (number force : ℕ) → length (o .forces) ≡
     → _≡_ {A = List ℕ}
     (o .refusal ∷ o .field ∷ (placesFrom 0 8 (o .forces)
     ++ (o .sum ∷ o .«newton_metres» ∷ o .cap ∷ number ∷ force
-    ∷ boolByte (o .verdicts .bending) ∷ boolByte (o .verdicts .bolts) ∷ boolByte (o .verdicts .«flange_weld») ∷ boolByte (o .verdicts .«web_weld») ∷ [])))
+    ∷ boolByte (o .verdicts .bending) ∷ boolByte (o .verdicts .bolts)
+    ∷ boolByte (o .verdicts .«flange_weld») ∷ boolByte (o .verdicts .«web_weld») ∷ [])))
     (outcomeItems o)
 unfolding figures outcomeItems
 items-listed o number force eight e f =

@@ -1,6 +1,6 @@
 -- `same` is true of equal lists and of no others; and what a loop that compares two lists of one length in turn knows: the answer is what
 -- the places passed say together with what the rest does. Assumes nothing.
-use Prim.Native.Nat.{ℕ, zero, suc, _+_, _≤_, _<_}
+use Prim.Native.Nat.{ℕ, suc, _+_, _≤_, _<_}
 use mathlib.Core.Path.{_≡_, refl, sym, ap, _∙_}
 use mathlib.Core.Bool.{Bool, true, false, _&&_, and-assoc, and-comm, and-true}
 use mathlib.Core.List.{List, [], _∷_}
@@ -39,7 +39,8 @@ truth false h = refl
 -- a test that is true exactly of equal lists is `same`
 pub same-of : (xs ys : List ℕ) (r : Bool) → (r ≡ true → xs ≡ ys) → (xs ≡ ys → r ≡ true) → r ≡ same xs ys
 same-of xs ys true only all = let e = only refl in rw (sym e) (sym (same-refl xs))
-same-of xs ys false only all = sym (truth (same xs ys) (λ t. let e = all (same-equal xs ys t) in let z : _≡_ {A = ℕ} 0 1 = cc in omega arith))
+same-of xs ys false only all =
+    sym (truth (same xs ys) (λ t. let e = all (same-equal xs ys t) in let z : _≡_ {A = ℕ} 0 1 = cc in omega arith))
 
 pub lengths-differ : (xs ys : List ℕ) → (length xs ≡ length ys → ⊥) → same xs ys ≡ false
 lengths-differ xs ys differ = truth (same xs ys) (λ t. differ (ap length (same-equal xs ys t)))

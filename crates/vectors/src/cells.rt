@@ -11,6 +11,7 @@ ghost use mathlib.Core.Path.{_≡_};
 ghost use Prim.Native.Nat.{min};
 ghost use Rattle.arithmetic.specs.Table.{oneOf};
 ghost use Rattle.vectors.specs.Printed.{exceptions, near, governingForce, quantityOf, asListed};
+ghost use Rattle.vectors.specs.Vectors.{cellHolds};
 
 // Cells that are known not to agree, by their number.
 const EXCEPTIONS: [u64; 11] = [
@@ -126,7 +127,9 @@ fn is_cell(cell: u64, line: u64, worked: u64, printed: u64, tolerance: u64) -> b
 }
 
 // A record: a joint; the cell's number, its line in P207's text, what it tells, the newtons printed and their tolerance.
-pub fn run(vector: u64, bytes: &[u8]) -> bool {
+pub fn run(vector: u64, bytes: &[u8]) -> bool
+    ensures { λ r. ⌜ r ≡ cellHolds (now (bytes .entry)) ⌝ }
+{
     let stored = joint_at(bytes);
     let mut cell = [0u64; 5];
     let next = stored.next;

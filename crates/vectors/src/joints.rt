@@ -8,6 +8,7 @@ use compression::CompressionCheck;
 use outcome::Outcome;
 ghost use mathlib.Core.Path.{_≡_};
 ghost use Rattle.vectors.specs.Answers.{checkNumber, outcomeItems};
+ghost use Rattle.vectors.specs.Vectors.{workHolds};
 
 // The letters F, B, K, S of a compression check, counted from 1.
 pub fn check_number(check: CompressionCheck) -> u64
@@ -52,7 +53,9 @@ fn items_of(outcome: Outcome) -> [u64; 19]
 }
 
 // A record: a joint, and the items of its outcome.
-pub fn run(vector: u64, bytes: &[u8]) -> bool {
+pub fn run(vector: u64, bytes: &[u8]) -> bool
+    ensures { λ r. ⌜ r ≡ workHolds (now (bytes .entry)) ⌝ }
+{
     let stored = joint_at(bytes);
     let mut should = [0u64; 19];
     let next = stored.next;

@@ -1,7 +1,6 @@
 -- `vectors::cells::quantity_of` meets its contract: each arm is the place of its number in the list of quantities, and any other number
 -- tells nothing. Assumes nothing.
 use mathlib.Core.Path.{sym}
-use native.Mathlib.Omega.{arith}
 use borrow.Author.Needs.{needs}
 use Rattle.vectors.specs.Printed.{quantityOf}
 use Rattle.vectors.proofs.Judging.{quantity-none}
