@@ -1,4 +1,4 @@
--- What the code that reads a record says, as what reading gives: `Told` of its answers. A place lies in the bytes or at their end.
+-- What the code that reads a record answers, said as what reading gives. A place that it answers lies in the bytes or at their end.
 -- Assumes nothing.
 use Prim.Native.Nat.{ℕ, _≤_}
 use mathlib.Core.Path.{_≡_}
@@ -13,6 +13,7 @@ use Rattle.vectors.specs.declared.stored.Place.the-variants.{At, Bad}
 use Rattle.vectors.specs.declared.stored.StoredJoint.{StoredJoint}
 use Rattle.vectors.specs.Reading.{Reading, got, bad, readNumber, readNumbers, readJoint}
 
+-- what an answer of `number_at` says
 abbrev pub numberTold : List ℕ → Number → Reading ℕ
 numberTold bytes (Value value next) = got value (drop next bytes)
 numberTold bytes Missing = bad
@@ -32,6 +33,7 @@ abbrev pub upTo : {A : Type 0} → List ℕ → A → Place → Reading A
 upTo bytes value (At next) = got value (drop next bytes)
 upTo bytes value Bad = bad
 
+-- where a place is, 0 for a bad one
 abbrev pub placeOf : Place → ℕ
 placeOf (At next) = next
 placeOf Bad = 0
