@@ -7,6 +7,11 @@ use crate::tell::bad_record;
 use crate::tell::number;
 use crate::tell::text;
 use outcome::Outcome;
+ghost use mathlib.Core.Path.{_≡_};
+ghost use Prim.Native.Nat.{min};
+ghost use Rattle.arithmetic.specs.Table.{oneOf};
+ghost use Rattle.vectors.specs.Printed.{exceptions, near, governingForce, quantityOf, asListed};
+ghost use Rattle.vectors.specs.Vectors.{cellHolds};
 
 // Cells that are known not to agree, by their number.
 const EXCEPTIONS: [u64; 11] = [
@@ -28,7 +33,9 @@ const EXCEPTIONS: [u64; 11] = [
     480,
 ];
 
-fn is_exception(cell: u64) -> bool {
+fn is_exception(cell: u64) -> bool
+    ensures { λ r. ⌜ r ≡ oneOf exceptions cell ⌝ }
+{
     let mut k = 0;
     while k < 11 {
         if EXCEPTIONS[k] == cell {
@@ -39,12 +46,16 @@ fn is_exception(cell: u64) -> bool {
     false
 }
 
-fn lesser(a: u64, b: u64) -> u64 {
+fn lesser(a: u64, b: u64) -> u64
+    ensures { λ r. ⌜ r ≡ min a b ⌝ }
+{
     if a < b { a } else { b }
 }
 
 // The newtons of the governing check, if it is the one asked for (0: any), else 0.
-fn governing(outcome: Outcome, kind: u64) -> u64 {
+fn governing(outcome: Outcome, kind: u64) -> u64
+    ensures { λ r. ⌜ r ≡ governingForce outcome kind ⌝ }
+{
     let check = outcome.check;
     if (kind == 0) | (check_number(check) == kind) {
         return compression::force_of(check);
@@ -53,7 +64,9 @@ fn governing(outcome: Outcome, kind: u64) -> u64 {
 }
 
 // What a cell tells: 1 to 3 the force of that row, 4 the least of rows 4 to 6, 5 the governing check of any kind, 6 to 9 of that kind.
-fn quantity_of(outcome: Outcome, quantity: u64) -> u64 {
+fn quantity_of(outcome: Outcome, quantity: u64) -> u64
+    ensures { λ r. ⌜ r ≡ quantityOf outcome quantity ⌝ }
+{
     let forces = outcome.forces;
     match quantity {
         1 => forces[0],
@@ -69,7 +82,9 @@ fn quantity_of(outcome: Outcome, quantity: u64) -> u64 {
     }
 }
 
-fn is_within(worked: u64, printed: u64, tolerance: u64) -> bool {
+fn is_within(worked: u64, printed: u64, tolerance: u64) -> bool
+    ensures { λ r. ⌜ r ≡ near worked printed tolerance ⌝ }
+{
     if worked < printed {
         printed - worked <= tolerance
     } else {
@@ -90,7 +105,9 @@ fn tell_cell(cell: u64, line: u64, printed: u64, worked: u64) {
 }
 
 // A cell agrees, or is an exception that doesn't.
-fn is_cell(cell: u64, line: u64, worked: u64, printed: u64, tolerance: u64) -> bool {
+fn is_cell(cell: u64, line: u64, worked: u64, printed: u64, tolerance: u64) -> bool
+    ensures { λ r. ⌜ r ≡ asListed cell worked printed tolerance ⌝ }
+{
     let within = is_within(worked, printed, tolerance);
     let known = is_exception(cell);
     if within & !known {
@@ -110,7 +127,9 @@ fn is_cell(cell: u64, line: u64, worked: u64, printed: u64, tolerance: u64) -> b
 }
 
 // A record: a joint; the cell's number, its line in P207's text, what it tells, the newtons printed and their tolerance.
-pub fn run(vector: u64, bytes: &[u8]) -> bool {
+pub fn run(vector: u64, bytes: &[u8]) -> bool
+    ensures { λ r. ⌜ r ≡ cellHolds (now (bytes .entry)) ⌝ }
+{
     let stored = joint_at(bytes);
     let mut cell = [0u64; 5];
     let next = stored.next;

@@ -6,9 +6,14 @@ use crate::tell::are_items;
 use crate::tell::bad_record;
 use compression::CompressionCheck;
 use outcome::Outcome;
+ghost use mathlib.Core.Path.{_≡_};
+ghost use Rattle.vectors.specs.Answers.{checkNumber, outcomeItems};
+ghost use Rattle.vectors.specs.Vectors.{workHolds};
 
 // The letters F, B, K, S of a compression check, counted from 1.
-pub fn check_number(check: CompressionCheck) -> u64 {
+pub fn check_number(check: CompressionCheck) -> u64
+    ensures { λ r. ⌜ r ≡ checkNumber check ⌝ }
+{
     match check {
         CompressionCheck::Flange(_) => 1,
         CompressionCheck::Bearing(_) => 2,
@@ -18,7 +23,9 @@ pub fn check_number(check: CompressionCheck) -> u64 {
 }
 
 // Refusal, field, eight forces, sum, newton metres, cap, check and its newtons, four verdicts.
-fn items_of(outcome: Outcome) -> [u64; 19] {
+fn items_of(outcome: Outcome) -> [u64; 19]
+    ensures { λ r. ⌜ r ≡ outcomeItems outcome ⌝ }
+{
     let forces = outcome.forces;
     let verdicts = outcome.verdicts;
     let check = outcome.check;
@@ -46,7 +53,9 @@ fn items_of(outcome: Outcome) -> [u64; 19] {
 }
 
 // A record: a joint, and the items of its outcome.
-pub fn run(vector: u64, bytes: &[u8]) -> bool {
+pub fn run(vector: u64, bytes: &[u8]) -> bool
+    ensures { λ r. ⌜ r ≡ workHolds (now (bytes .entry)) ⌝ }
+{
     let stored = joint_at(bytes);
     let mut should = [0u64; 19];
     let next = stored.next;

@@ -5,9 +5,18 @@ use crate::stored::is_end;
 use crate::tell::are_items;
 use crate::tell::bad_record;
 use allocation::Allocation;
+ghost use mathlib.Core.Path.{_≡_};
+ghost use Prim.Native.Nat.{_≤_};
+ghost use lib.ListN.{length};
+ghost use Rattle.vectors.specs.Answers.{allocationItems};
+ghost use Rattle.vectors.specs.Reading.{holds};
+ghost use Rattle.vectors.specs.Told.{placeOf};
+ghost use Rattle.vectors.specs.Vectors.{sharedFrom, limitsHold};
 
 // Refusal and eight forces.
-fn items_of(allocation: Allocation) -> [u64; 9] {
+fn items_of(allocation: Allocation) -> [u64; 9]
+    ensures { λ r. ⌜ r ≡ allocationItems allocation ⌝ }
+{
     let forces = allocation.forces;
     [
         allocation.refusal as u64,
@@ -30,7 +39,10 @@ fn is_shared(
     count: usize,
     limits: &mut [u64],
     should: &[u64],
-) -> bool {
+) -> bool
+    requires { ⌜ placeOf place ≤ length (now bytes) ⌝ }
+    ensures { λ r. ⌜ r ≡ holds (sharedFrom (now (bytes .entry)) place count (length (now (limits .entry))) (now (should .entry))) ⌝ }
+{
     let end = fill(bytes, place, limits);
     if !is_end(bytes, end) {
         return bad_record(vector);
@@ -40,7 +52,9 @@ fn is_shared(
 }
 
 // A record: the count, how many limits there are, the items of the answer, the limits.
-pub fn run(vector: u64, bytes: &[u8]) -> bool {
+pub fn run(vector: u64, bytes: &[u8]) -> bool
+    ensures { λ r. ⌜ r ≡ limitsHold (now (bytes .entry)) ⌝ }
+{
     let mut head = [0u64; 2];
     let mut should = [0u64; 9];
     let first = fill(bytes, Place::At(0), &mut head);

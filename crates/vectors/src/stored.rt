@@ -2,8 +2,11 @@
 // below 248, or 247 more than a count of bytes, and those bytes, high byte first.
 use fields::joint_of;
 use joint::Joint;
+ghost use mathlib.Core.Path.{_≡_};
 ghost use Prim.Native.Nat.{_≤_, _<_};
 ghost use lib.ListN.{length};
+ghost use Rattle.vectors.specs.Reading.{highFirst, any, word};
+ghost use Rattle.vectors.specs.Told.{NumberRead, Filled, JointRead, atEnd};
 
 // Where a record's body starts and ends. Tag 0: the bytes end before the record does.
 pub struct Record {
@@ -13,7 +16,7 @@ pub struct Record {
 }
 
 fn wide(byte: u8) -> usize
-    ensures { λ r. ⌜ r < 256 ⌝ }
+    ensures { λ r. ⌜ (r ≡ byte) × (r < 256) ⌝ }
 {
     byte as usize
 }
@@ -52,7 +55,9 @@ enum Number {
     Missing,
 }
 
-fn number_at(bytes: &[u8], at: usize) -> Number {
+fn number_at(bytes: &[u8], at: usize) -> Number
+    ensures { λ r. ⌜ NumberRead (now (bytes .entry)) at r ⌝ }
+{
     if bytes.len() <= at {
         return Number::Missing;
     }
@@ -75,11 +80,17 @@ fn number_at(bytes: &[u8], at: usize) -> Number {
     }
 }
 
-fn byte_of(byte: u8) -> u64 {
+fn byte_of(byte: u8) -> u64
+    ensures { λ r. ⌜ (r ≡ byte) × (r < 256) ⌝ }
+{
     byte as u64
 }
 
-fn value_of(bytes: &[u8]) -> u64 {
+// High byte first. A number has 64 bits.
+fn value_of(bytes: &[u8]) -> u64
+    requires { ⌜ length (now bytes) ≤ 8 ⌝ }
+    ensures { λ r. ⌜ r ≡ highFirst 0 (now (bytes .entry)) ⌝ }
+{
     let mut value: u64 = 0;
     let mut at = 0;
     while at < bytes.len() {
@@ -96,7 +107,9 @@ pub enum Place {
 }
 
 // Fills `values` with the numbers that stand from a place on.
-pub fn fill(bytes: &[u8], place: Place, values: &mut [u64]) -> Place {
+pub fn fill(bytes: &[u8], place: Place, values: &mut [u64]) -> Place
+    ensures { λ r. ⌜ Filled any (now (bytes .entry)) place (length (now (values .entry))) (now (values .exit)) r ⌝ }
+{
     let Place::At(from) = place else {
         return Place::Bad;
     };
@@ -114,7 +127,9 @@ pub fn fill(bytes: &[u8], place: Place, values: &mut [u64]) -> Place {
 }
 
 // The same for numbers of 32 bits.
-pub fn fill_words(bytes: &[u8], place: Place, words: &mut [u32]) -> Place {
+pub fn fill_words(bytes: &[u8], place: Place, words: &mut [u32]) -> Place
+    ensures { λ r. ⌜ Filled word (now (bytes .entry)) place (length (now (words .entry))) (now (words .exit)) r ⌝ }
+{
     let Place::At(from) = place else {
         return Place::Bad;
     };
@@ -135,7 +150,9 @@ pub fn fill_words(bytes: &[u8], place: Place, words: &mut [u32]) -> Place {
 }
 
 // Whether a record is read to its end.
-pub fn is_end(bytes: &[u8], place: Place) -> bool {
+pub fn is_end(bytes: &[u8], place: Place) -> bool
+    ensures { λ r. ⌜ r ≡ atEnd (now (bytes .entry)) place ⌝ }
+{
     match place {
         Place::At(at) => at == bytes.len(),
         Place::Bad => false,
@@ -149,7 +166,9 @@ pub struct StoredJoint {
 }
 
 // The joint that a record begins with: 29 fields and eight levers. Its axial force is stored as in a joint file.
-pub fn joint_at(bytes: &[u8]) -> StoredJoint {
+pub fn joint_at(bytes: &[u8]) -> StoredJoint
+    ensures { λ r. ⌜ JointRead (now (bytes .entry)) r ⌝ }
+{
     let mut fields = [0u32; 29];
     let mut levers = [0u32; 8];
     let first = fill_words(bytes, Place::At(0), &mut fields);

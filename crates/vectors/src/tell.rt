@@ -1,5 +1,9 @@
 // What is printed, and comparing with it.
 use libc::STDOUT_FILENO;
+ghost use mathlib.Core.Path.{_≡_};
+ghost use mathlib.Core.Bool.{false};
+ghost use lib.Dec.{eqb};
+ghost use Rattle.vectors.specs.Same.{same};
 
 pub fn text(bytes: &[u8]) {
     io::write_all(STDOUT_FILENO, bytes);
@@ -18,7 +22,9 @@ fn vector_item(vector: u64, item: u64) {
 }
 
 // Compares one item of a vector's answer, and prints both figures when they differ. Items count from 1.
-pub fn is_item(vector: u64, item: u64, is: u64, should: u64) -> bool {
+pub fn is_item(vector: u64, item: u64, is: u64, should: u64) -> bool
+    ensures { λ r. ⌜ r ≡ eqb is should ⌝ }
+{
     if is == should {
         return true;
     }
@@ -32,7 +38,9 @@ pub fn is_item(vector: u64, item: u64, is: u64, should: u64) -> bool {
 }
 
 // Compares every item of a vector's answer.
-pub fn are_items(vector: u64, are: &[u64], should: &[u64]) -> bool {
+pub fn are_items(vector: u64, are: &[u64], should: &[u64]) -> bool
+    ensures { λ r. ⌜ r ≡ same (now (are .entry)) (now (should .entry)) ⌝ }
+{
     if are.len() != should.len() {
         return bad_record(vector);
     }
@@ -45,12 +53,16 @@ pub fn are_items(vector: u64, are: &[u64], should: &[u64]) -> bool {
     agree
 }
 
-fn long(word: u32) -> u64 {
+fn long(word: u32) -> u64
+    ensures { λ r. ⌜ r ≡ word ⌝ }
+{
     word as u64
 }
 
 // The same for words.
-pub fn are_words(vector: u64, are: &[u32], should: &[u32]) -> bool {
+pub fn are_words(vector: u64, are: &[u32], should: &[u32]) -> bool
+    ensures { λ r. ⌜ r ≡ same (now (are .entry)) (now (should .entry)) ⌝ }
+{
     if are.len() != should.len() {
         return bad_record(vector);
     }
@@ -70,7 +82,9 @@ pub fn are_words(vector: u64, are: &[u32], should: &[u32]) -> bool {
 }
 
 // Compares bytes that a call hands back or leaves.
-pub fn are_bytes(vector: u64, are: &[u8], should: &[u8]) -> bool {
+pub fn are_bytes(vector: u64, are: &[u8], should: &[u8]) -> bool
+    ensures { λ r. ⌜ r ≡ same (now (are .entry)) (now (should .entry)) ⌝ }
+{
     if check::same(are, should) {
         return true;
     }
@@ -81,7 +95,9 @@ pub fn are_bytes(vector: u64, are: &[u8], should: &[u8]) -> bool {
 }
 
 // A record that can't be read counts as one that disagrees.
-pub fn bad_record(vector: u64) -> bool {
+pub fn bad_record(vector: u64) -> bool
+    ensures { λ r. ⌜ r ≡ false ⌝ }
+{
     text(b"  vector ");
     number(vector);
     text(b" is a bad record\n");

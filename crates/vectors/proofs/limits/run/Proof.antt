@@ -1,8 +1,10 @@
--- `vectors::limits::run` is safe and ends: the needs are facts on numbers. Assumes nothing.
-use mathlib.Core.Path.{sym}
+-- `vectors::limits::run` meets its contract: with too many limits the record is bad, and else the answer is that from its place on.
+-- Assumes nothing.
+use mathlib.Core.Path.{sym, _∙_}
 use native.Mathlib.Omega.{arith}
 use lib.Seq.{length-take-le}
 use borrow.Author.Needs.{needs}
+use Rattle.vectors.proofs.Runs.{place-inside, limits-many, limits-few}
 use Rattle.vectors.proofs.limits.run.Statement.{statement}
 use Rattle.vectors.proofs.limits.run.Tie as tie
 
@@ -28,7 +30,9 @@ bad-record-requires : tie.Need-bad-record-requires
 bad-record-requires c κs = search needs
 
 returns : tie.Need-returns
-returns c = search needs
+returns c =
+    let second = c .before .before .before in
+    limits-many (second .before .before .before .fill .ensures) (second .fill2 .ensures) (c .before .if1 .taken) (c .bad-record .ensures)
 
 array-borrow-prefix-limits : tie.Need-array-borrow-prefix-limits
 array-borrow-prefix-limits c = search needs
@@ -40,10 +44,15 @@ slice-aggregate-is-shared-2 : tie.Need-slice-aggregate-is-shared-2
 slice-aggregate-is-shared-2 c = search needs
 
 is-shared-requires : tie.Need-is-shared-requires
-is-shared-requires c κs = search needs
+is-shared-requires c κs =
+    let second = c .before .before .before .before in
+    place-inside (second .before .before .before .fill .ensures) (second .fill2 .ensures)
 
 returns-2 : tie.Need-returns-2
-returns-2 c = search needs
+returns-2 c =
+    let second = c .before .before .before .before .before .before in
+    c .before .is-shared .ensures
+    ∙ limits-few (second .before .before .before .fill .ensures) (second .fill2 .ensures) (length-take-le _ _ (omega arith)) (c .before .before .before .before .if1 .left)
 
 pub run-spec : {M : Type 1} → statement M
 run-spec =

@@ -1,18 +1,21 @@
--- `vectors::stored::value_of` is safe and ends: the bytes are taken in turn; the measure is how many are left. Assumes nothing.
-use Prim.Native.Nat.{_≤_, _-_}
+-- `vectors::stored::value_of` meets its contract: the loop's head is `ValueHead`, and a byte carries it on. The measure is how many bytes
+-- are left. Assumes nothing.
+use Prim.Native.Nat.{_-_}
+use native.Mathlib.Omega.{arith}
 use lib.ListN.{length}
 use borrow.Author.Needs.{needs}
+use Rattle.vectors.proofs.OneNumber.{ValueHead, value-none, value-more, value-done}
 use Rattle.vectors.proofs.stored.value_of.Statement.{statement}
 use Rattle.vectors.proofs.stored.value_of.Tie as tie
 
 abbrev Inv-loop : tie.InvT-loop
-Inv-loop bytes value₀ at₀ value at = at ≤ length bytes
+Inv-loop bytes value₀ at₀ value at = ValueHead bytes value at
 
 abbrev μ-loop : tie.MeasureT-loop
 μ-loop bytes value₀ at₀ value at = length bytes - at
 
 loop-holds : tie.Need-loop-holds Inv-loop μ-loop
-loop-holds c = search needs
+loop-holds c = value-none _
 
 shared-slice-read-byte-of : tie.Need-shared-slice-read-byte-of Inv-loop μ-loop
 shared-slice-read-byte-of c = search needs
@@ -27,10 +30,12 @@ loop-less : tie.Need-loop-less Inv-loop μ-loop
 loop-less c = search needs
 
 loop-again : tie.Need-loop-again Inv-loop μ-loop
-loop-again c = search needs
+loop-again c =
+    value-more _ (c .before .before .before .loop .inv) (c .before .before .loop-test .taken) (omega arith)
+    (c .byte-of .ensures .0) (c .byte-of .ensures .1)
 
 returns : tie.Need-returns Inv-loop μ-loop
-returns c = search needs
+returns c = value-done (c .before .loop .inv) (c .loop-test .left)
 
 pub value-of-spec : {M : Type 1} → statement M
 value-of-spec =

@@ -1,0 +1,36 @@
+-- The answers that a vector holds, as lists of numbers: Work's and Allocate's. Assumes nothing.
+use Prim.Native.Nat.{ℕ}
+use mathlib.Core.Bool.{Bool, cond}
+use mathlib.Core.List.{List, [], _∷_, _++_}
+use Rattle.allocation.specs.declared.Allocation.{Allocation}
+use Rattle.compression.specs.declared.CompressionCheck.{CompressionCheck}
+use Rattle.compression.specs.declared.CompressionCheck.the-variants.{Flange, Bearing, Buckling, Panel}
+use Rattle.compression.specs.Compression.{forceOf}
+use Rattle.outcome.specs.declared.Outcome.{Outcome}
+
+-- F, B, K, S, counted from 1
+abbrev pub checkNumber : CompressionCheck → ℕ
+checkNumber (Flange force) = 1
+checkNumber (Bearing force) = 2
+checkNumber (Buckling force) = 3
+checkNumber (Panel force) = 4
+
+-- 1 for yes
+abbrev pub flag : Bool → ℕ
+flag passes = cond passes 1 0
+
+-- Sum, newton metres, cap, check and its newtons, and four verdicts.
+unfoldable pub figures : Outcome → List ℕ
+figures outcome =
+    let verdicts = outcome .verdicts in
+    outcome .sum ∷ outcome .«newton_metres» ∷ outcome .cap ∷ checkNumber (outcome .check) ∷ forceOf (outcome .check)
+    ∷ flag (verdicts .bending) ∷ flag (verdicts .bolts) ∷ flag (verdicts .«flange_weld») ∷ flag (verdicts .«web_weld») ∷ []
+
+-- Refusal, field, eight forces and the figures.
+unfoldable pub outcomeItems : Outcome → List ℕ
+outcomeItems outcome =
+    outcome .refusal ∷ outcome .field ∷ (outcome .forces ++ figures outcome)
+
+-- Refusal and eight forces.
+unfoldable pub allocationItems : Allocation → List ℕ
+allocationItems allocation = allocation .refusal ∷ allocation .forces
