@@ -1,5 +1,7 @@
 // Runs the open calls on stored vectors and compares with what they should answer. Prints, for each kind of vector, how many ran and
 // how many came out as expected, and each that didn't.
+ghost use mathlib.Core.Path.{_≡_};
+ghost use lib.ListN.{length};
 use stored::record_at;
 use tell::bad_record;
 use tell::number;
@@ -97,8 +99,15 @@ fn run_all(bytes: &[u8]) -> Tally {
     tally
 }
 
+// Zeros for what is read.
+fn input_space() -> [u8; 400000]
+    ensures { λ r. ⌜ 400000 ≡ length r ⌝ }
+{
+    [0; 400000]
+}
+
 fn main() {
-    let mut input = [0u8; 400000];
+    let mut input = input_space();
     let size = io::read_full(0, &mut input);
     if size == 400000 {
         text(b"The input is too long.\n");
