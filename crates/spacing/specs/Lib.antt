@@ -1,1 +1,2 @@
+-- Distances about the bolts: m, e and mx.
 pub mod Spacing
