@@ -4,10 +4,10 @@ use Prim.Native.Nat.{ℕ, suc, _+_, _≤_}
 use mathlib.Core.Path.{_≡_, refl, sym, ap, _∙_}
 use mathlib.Core.List.{List, [], _∷_, _++_}
 use native.Mathlib.Omega.{arith}
-use native.Mathlib.Nat.{add-zero}
+use native.Mathlib.Nat.{add-zero, zero-add}
 use lib.ListN.{length, set, length-append}
-use lib.Seq.{sets, length-sets, set-comm}
-use Rattle.buffers.specs.Put.{Put}
+use lib.Seq.{sets, sets-eq, length-sets, set-comm}
+use Rattle.buffers.specs.Put.{atFront, Put}
 
 pub sets-append : (l : List ℕ) (i : ℕ) (xs ys : List ℕ) → sets l i (xs ++ ys) ≡ sets (sets l i xs) (i + length xs) ys
 sets-append l i [] ys = rw add-zero
@@ -23,6 +23,10 @@ sets-last l i (x ∷ xs) y =
     rw place
     (sets-last (set l i x) (suc i) xs y
     ∙ ap (λ (m : List ℕ). sets m (suc i) xs) (set-comm l i (suc i + length xs) x y (λ e. omega arith)))
+
+-- bytes stored from the first place on stand at the front
+pub sets-front : (bytes buffer : List ℕ) → length bytes ≤ length buffer → sets buffer 0 bytes ≡ atFront bytes buffer
+sets-front bytes buffer fits = sets-eq bytes buffer 0 (omega arith) ∙ rw zero-add
 
 pub put-both : {buffer between exit xs ys : List ℕ} {from at next : ℕ} → Put buffer from xs between at → Put between at ys exit next
     → Put buffer from (xs ++ ys) exit next

@@ -20,7 +20,8 @@ use Rattle.outcome.specs.declared.Outcome.{Outcome}
 use Rattle.work.specs.Work.{worked}
 use Rattle.sheets.specs.Sheet.{printing, sheetLines, printedTold}
 use Rattle.sheets.specs.declared.Printed.{Printed}
-use Rattle.words.specs.Words.{jointOfWords, wordsOf, front}
+use Rattle.words.specs.Words.{jointOfWords, wordsOf}
+use Rattle.buffers.specs.Put.{atFront}
 use Rattle.words.specs.Outcomes.{outcomeWords}
 use Rattle.exports.specs.Calls.{allocateTold, allocateAnswer, allocating, readAnswer, readingInto, writeAnswer, writingInto, workTold, workAnswer, workingInto, sheetAnswer, sheetingInto}
 
@@ -36,7 +37,7 @@ unfolding allocating
 allocate-taken count limits forces room = simp (le-leb 8 (length forces) room)
 
 pub allocate-answer : (count : ℕ) (limits forces : List ℕ) {allocation : Allocation} {exit : List ℕ} → 8 ≤ length forces
-    → allocation ≡ allocated count limits → exit ≡ front (allocation .forces) forces
+    → allocation ≡ allocated count limits → exit ≡ atFront (allocation .forces) forces
     → allocateTold (allocation .refusal) exit ≡ allocating count limits forces
 allocate-answer count limits forces {allocation} room is put =
     ap (allocateTold (allocation .refusal)) put
@@ -55,7 +56,7 @@ unfolding readingInto
 read-room bytes fields next room = simp (le-leb 37 (length fields) room)
 
 pub read-answer : (bytes fields : List ℕ) (next : ℕ) {answer : Reading} {exit : List ℕ} → 37 ≤ length fields
-    → answer ≡ reading bytes → exit ≡ front (wordsOf (answer .joint)) fields
+    → answer ≡ reading bytes → exit ≡ atFront (wordsOf (answer .joint)) fields
     → record { number = answer .refusal; fields = exit; next = answer .next } ≡ readingInto bytes fields next
 read-answer bytes fields next {answer} room is put =
     (λ i. record { number = answer .refusal; fields = put i; next = answer .next })
@@ -107,7 +108,7 @@ unfolding workingInto
 work-taken fields words room place = simp (le-leb 37 (length fields) room, le-leb 19 (length words) place)
 
 pub work-answer : (fields words : List ℕ) {joint : Joint} {outcome : Outcome} {exit : List ℕ} → 37 ≤ length fields → 19 ≤ length words
-    → joint ≡ jointOfWords fields → outcome ≡ worked joint → exit ≡ front (outcomeWords outcome) words
+    → joint ≡ jointOfWords fields → outcome ≡ worked joint → exit ≡ atFront (outcomeWords outcome) words
     → workTold (outcome .refusal) exit ≡ workingInto fields words
 work-answer fields words {joint} {outcome} room place same is put =
     ap (workTold (outcome .refusal)) put

@@ -13,7 +13,8 @@ use Rattle.jointfile.specs.declared.Reading.{Reading}
 use Rattle.outcome.specs.declared.Outcome.{Outcome}
 use Rattle.work.specs.Work.{worked}
 use Rattle.sheets.specs.Sheet.{Printing, whole, cut, printing, sheetLines}
-use Rattle.words.specs.Words.{jointOfWords, wordsOf, front}
+use Rattle.words.specs.Words.{jointOfWords, wordsOf}
+use Rattle.buffers.specs.Put.{atFront}
 use Rattle.words.specs.Outcomes.{outcomeWords}
 
 -- ---- Allocate
@@ -26,7 +27,7 @@ abbrev pub allocateTold : ℕ → List ℕ → AllocateTold
 allocateTold number forces = record { number = number; forces = forces }
 
 abbrev pub allocateAnswer : Allocation → List ℕ → AllocateTold
-allocateAnswer allocation forces = allocateTold (allocation .refusal) (front (allocation .forces) forces)
+allocateAnswer allocation forces = allocateTold (allocation .refusal) (atFront (allocation .forces) forces)
 
 unfoldable pub allocating : ℕ → List ℕ → List ℕ → AllocateTold
 allocating count limits forces =
@@ -41,7 +42,7 @@ pub record ReadTold : Type 0 where
 
 abbrev pub readAnswer : Reading → List ℕ → ReadTold
 readAnswer reading fields =
-    record { number = reading .refusal; fields = front (wordsOf (reading .joint)) fields; next = reading .next }
+    record { number = reading .refusal; fields = atFront (wordsOf (reading .joint)) fields; next = reading .next }
 
 unfoldable pub readingInto : List ℕ → List ℕ → ℕ → ReadTold
 readingInto bytes fields next =
@@ -72,7 +73,7 @@ abbrev pub workTold : ℕ → List ℕ → WorkTold
 workTold number outcome = record { number = number; outcome = outcome }
 
 abbrev pub workAnswer : Outcome → List ℕ → WorkTold
-workAnswer outcome words = workTold (outcome .refusal) (front (outcomeWords outcome) words)
+workAnswer outcome words = workTold (outcome .refusal) (atFront (outcomeWords outcome) words)
 
 unfoldable pub workingInto : List ℕ → List ℕ → WorkTold
 workingInto fields words =

@@ -1,6 +1,6 @@
 -- The axial force as a number of the file: the force of an even number and of an odd one, that the two forms undo one another, and that
 -- a force of 32 bits has a number of 32 bits. By cases on the sign. Assumes nothing.
-use Prim.Native.Nat.{ℕ, zero, suc, _+_, _*_, _/_, _%_, _^_, _<_}
+use Prim.Native.Nat.{ℕ, zero, suc, _+_, _*_, _/_, _%_}
 use mathlib.Core.Path.{_≡_, refl, ap, _∙_}
 use mathlib.Core.Bool.{Bool, true, false}
 use native.Mathlib.Omega.{arith}
@@ -8,8 +8,6 @@ use native.Mathlib.Nat.{zero-add}
 use borrow.Author.Tests.{eq-eqb, ne-eqb, eqb-true, eqb-false}
 use lib.Dec.{eqb}
 use lib.IntN.{ℤ, pos, negsuc, _-ℤ_}
-use mir.Syntax.{w32}
-use mir.Val.{SFits}
 use Rattle.fields.specs.Fields.{storedAxial, axialOf}
 
 -- -1 - n is negative
@@ -41,9 +39,3 @@ stored-axial x = go (eqb (x % 2) 0) refl
     go false e =
         let odd : x % 2 ≡ 1 = omega (arith, eqb-false (x % 2) 0 e) in
         rw (axial-odd x (eqb-false (x % 2) 0 e)) (omega arith)
-
--- A force of 32 bits is stored in 32 bits.
-pub stored-axial-small : (z : ℤ) → SFits w32 z → storedAxial z < 2 ^ 32
-unfolding storedAxial
-stored-axial-small (pos n) small = omega (arith, small .sfits)
-stored-axial-small (negsuc n) small = omega (arith, small .sfits)

@@ -4,12 +4,11 @@ use mathlib.Core.Path.{_≡_, sym, _∙_}
 use mathlib.Core.Bool.{true, false}
 use mathlib.Core.List.{List, [], _∷_, _++_}
 use native.Mathlib.Omega.{arith}
-use native.Mathlib.Nat.{zero-add}
 use borrow.Author.Tests.{leb-true, le-leb}
 use lib.Dec.{leb}
-use lib.ListN.{length, getD, drop, length-append}
-use lib.Seq.{sets-eq}
-use Rattle.buffers.specs.Put.{Put}
+use lib.ListN.{length, getD, length-append}
+use Rattle.buffers.specs.Put.{atFront, Put}
+use Rattle.buffers.proofs.Puts.{sets-front}
 use Rattle.numbers.specs.Number.{stored}
 use Rattle.numbers.specs.Run.{storedAll}
 use Rattle.numbers.proofs.Codec.{groups-last}
@@ -40,5 +39,5 @@ unfolding placed
 placed-put {bytes} {buffer} {exit} {next} put room =
     let fits = leb-true (length bytes) (length buffer) room in
     let size : next ≡ length bytes = omega (arith, put .place) in
-    let whole : exit ≡ bytes ++ drop (length bytes) buffer = put .stores ∙ sets-eq bytes buffer 0 (omega arith) ∙ rw zero-add in
+    let whole : exit ≡ atFront bytes buffer = put .stores ∙ sets-front bytes buffer fits in
     simp room (λ i. record { refusal = 0; size = size i; buffer = whole i })

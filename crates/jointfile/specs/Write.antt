@@ -9,6 +9,7 @@ use lib.ListN.{length, getD, take, drop}
 use Rattle.arithmetic.specs.Range.{within}
 use Rattle.joint.specs.Ranges.{rowCounts}
 use Rattle.joint.specs.declared.Joint.{Joint}
+use Rattle.buffers.specs.Put.{atFront}
 use Rattle.numbers.specs.Run.{storedAll, allZero}
 use Rattle.fields.specs.Fields.{fieldsOf}
 use Rattle.jointfile.specs.declared.Written.{Written}
@@ -37,7 +38,7 @@ turnedDown buffer r = record { refusal = r; size = 0; buffer = buffer }
 
 -- on success the file stands at the buffer's front, and past it the buffer is as it was
 abbrev pub wrote : List ℕ → List ℕ → Writing
-wrote buffer bytes = record { refusal = 0; size = length bytes; buffer = bytes ++ drop (length bytes) buffer }
+wrote buffer bytes = record { refusal = 0; size = length bytes; buffer = atFront bytes buffer }
 
 -- 5: the buffer is shorter than the file
 unfoldable pub placed : List ℕ → List ℕ → Writing

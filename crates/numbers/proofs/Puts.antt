@@ -9,9 +9,9 @@ use native.Mathlib.Numerals.{add-one}
 use native.Mathlib.Nat.{pow-suc}
 use borrow.Author.Tests.{ne-eqb}
 use lib.ListN.{length, getD, drop, set, length-set, length-append, drop-of-length-le}
-use lib.Seq.{sets, drop-cons, length-sets}
+use lib.Seq.{sets, drop-cons}
 use Rattle.buffers.specs.Put.{Put}
-use Rattle.buffers.proofs.Puts.{sets-append}
+use Rattle.buffers.proofs.Puts.{sets-append, put-length}
 use Rattle.numbers.specs.Number.{groups, stored}
 use Rattle.numbers.specs.Run.{storedAll, allZero}
 use Rattle.numbers.proofs.Codec.{groups-last, groups-more}
@@ -94,7 +94,7 @@ module _ {buffer₀ : List ℕ} {from : ℕ} {values buffer : List ℕ} {at i : 
     puts-more put =
         let x = getD values i 0 in
         record {
-          holds = ap length (put .stores) ∙ length-sets buffer at (stored x) ∙ head .holds;
+          holds = put-length put ∙ head .holds;
           place = omega (arith, size-next values i inside, head .place, put .place);
           writes =
               rw (put .stores, put .place)

@@ -7,7 +7,8 @@ use native.Mathlib.Omega.{arith}
 use lib.ListN.{length, drop, length-append}
 use lib.Seq.{length-take-le}
 use Rattle.numbers.specs.Number.{Bytes}
-use Rattle.sheets.specs.Sheet.{sheetLines, sheetOf, atFront, whole, cut, printing}
+use Rattle.buffers.specs.Put.{atFront}
+use Rattle.sheets.specs.Sheet.{sheetLines, sheetOf, whole, cut, printing}
 use Rattle.sheets.proofs.Sizes.{sheet-whole}
 use Rattle.sheet.specs.Whole.{Whole}
 

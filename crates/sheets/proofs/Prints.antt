@@ -9,16 +9,17 @@ use native.Mathlib.Nat.{add-zero, zero-add}
 use borrow.Author.Tests.{le-leb, lt-leb, leb-true, leb-false}
 use lib.Dec.{leb}
 use lib.ListN.{length, drop, set, length-append, length-drop, drop-of-length-le}
-use lib.Seq.{sets, sets-eq, length-sets, drop-drop}
+use lib.Seq.{sets, length-sets, drop-drop}
 use Rattle.numbers.specs.Number.{Bytes}
 use Rattle.jointfile.specs.File.{reading}
 use Rattle.jointfile.proofs.Places.{next-within}
-use Rattle.buffers.proofs.Puts.{sets-append}
+use Rattle.buffers.specs.Put.{atFront}
+use Rattle.buffers.proofs.Puts.{sets-append, sets-front}
 use Rattle.items.specs.Digits.{digits}
 use Rattle.items.specs.Items.{spaced}
 use Rattle.line.specs.Line.{Placing, placedTo, noRoom, placed}
 use Rattle.line.proofs.Lines.{room, placed-put, placed-short}
-use Rattle.sheets.specs.Sheet.{Line, linesOf, overLong, joined, fitting, atFront, Printing, whole, cut, printing, readingLine}
+use Rattle.sheets.specs.Sheet.{Line, linesOf, overLong, joined, fitting, Printing, whole, cut, printing, readingLine}
 use Rattle.sheets.proofs.Walk.{bytes-drop, lines-none, lines-next, next-positive}
 
 -- what follows a line: the others where it was put, nothing where it had no room
@@ -83,15 +84,12 @@ fitting-fits room (line ∷ lines) = go (fitting-fits (room - length line) lines
     go rest true e = rw length-append (omega (arith, rest, leb-true (length line) room e))
     go rest false e = omega arith
 
-front : (bytes buffer : List ℕ) → length bytes ≤ length buffer → sets buffer 0 bytes ≡ atFront bytes buffer
-front bytes buffer fits = sets-eq bytes buffer 0 (omega arith) ∙ rw zero-add
-
 pub printing-lines : (lines : List Line) (buffer : List ℕ) → putLines lines 0 buffer ≡ printing lines buffer
 unfolding printing shown
 printing-lines lines buffer =
     let all : length buffer - 0 ≡ length buffer = omega arith in
     put-lines lines 0 buffer (omega arith)
-    ∙ rw (zero-add (length (joined lines)), all, front (joined (fitting (length buffer) lines)) buffer (fitting-fits (length buffer) lines))
+    ∙ rw (zero-add (length (joined lines)), all, sets-front (joined (fitting (length buffer) lines)) buffer (fitting-fits (length buffer) lines))
     (go (leb (length (joined lines)) (length buffer)) refl)
   where
     some : List ℕ
@@ -100,7 +98,7 @@ printing-lines lines buffer =
     go : (t : Bool) → leb (length (joined lines)) (length buffer) ≡ t
         → cond t (whole (length (joined lines)) (sets buffer 0 (joined lines))) (cut some)
         ≡ cond t (whole (length (joined lines)) (atFront (joined lines) buffer)) (cut some)
-    go true e = ap (whole (length (joined lines))) (front (joined lines) buffer (leb-true (length (joined lines)) (length buffer) e))
+    go true e = ap (whole (length (joined lines))) (sets-front (joined lines) buffer (leb-true (length (joined lines)) (length buffer) e))
     go false e = refl
 
 -- ---- one line alone: `R 4`
@@ -111,7 +109,7 @@ over-long-short buffer short = rw (lt-leb 4 (length buffer) short)
 
 pub over-long-put : (buffer : List ℕ) → 4 ≤ length buffer → whole 4 (set (set (set (set buffer 0 82) 1 32) 2 52) 3 10) ≡ printing (overLong ∷ []) buffer
 unfolding printing joined spaced digits
-over-long-put buffer fits = rw (le-leb 4 (length buffer) fits) (ap (whole 4) (front (82 ∷ 32 ∷ 52 ∷ 10 ∷ []) buffer fits))
+over-long-put buffer fits = rw (le-leb 4 (length buffer) fits) (ap (whole 4) (sets-front (82 ∷ 32 ∷ 52 ∷ 10 ∷ []) buffer fits))
 
 -- ---- the walk
 

@@ -23,7 +23,8 @@ use Rattle.items.specs.Digits.{digits}
 use Rattle.items.specs.Items.{spaced}
 use Rattle.line.proofs.Lines.{refusal-short, outcome-short}
 use Rattle.work.specs.Work.{worked}
-use Rattle.sheets.specs.Sheet.{lineThen, linesWithin, linesOf, overLong, sheetLines, joined, sheetOf, whole, atFront, printing}
+use Rattle.sheets.specs.Sheet.{lineThen, linesWithin, linesOf, overLong, sheetLines, joined, sheetOf, whole, printing}
+use Rattle.buffers.specs.Put.{atFront}
 use Rattle.sheets.proofs.Walk.{bytes-left}
 
 storedAll-long : (xs : List ℕ) → length xs ≤ length (storedAll xs)

@@ -4,9 +4,10 @@ use Prim.Native.Nat.{ℕ, zero, suc, _+_, _-_}
 use mathlib.Core.List.{List, [], _∷_, _++_}
 use mathlib.Core.Bool.{cond}
 use lib.Dec.{leb, ltb, eqb}
-use lib.ListN.{length, drop}
+use lib.ListN.{length}
 use Rattle.joint.specs.declared.Joint.{Joint}
 use Rattle.numbers.specs.Outcome.{Outcome, got, refused}
+use Rattle.buffers.specs.Put.{atFront}
 use Rattle.jointfile.specs.File.{readJoint}
 use Rattle.jointfile.specs.declared.Reading.{Reading}
 use Rattle.items.specs.Digits.{decimal}
@@ -61,10 +62,6 @@ sheetOf bytes = joined (sheetLines bytes)
 unfoldable pub fitting : (room : ℕ) → List Line → List Line
 fitting room [] = []
 fitting room (line ∷ lines) = cond (leb (length line) room) (line ∷ fitting (room - length line) lines) []
-
--- bytes at a buffer's front, which is as it was past them
-abbrev pub atFront : List ℕ → List ℕ → List ℕ
-atFront bytes buffer = bytes ++ drop (length bytes) buffer
 
 -- what printing gives: the count of bytes, or that there is no room for all of them; and the buffer at exit
 pub data Printing : Type 0 where

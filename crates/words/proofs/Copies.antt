@@ -8,7 +8,7 @@ use native.Mathlib.Numerals.{add-one}
 use native.Mathlib.Nat.{zero-add}
 use lib.ListN.{length, getD, set, drop, length-append}
 use lib.Seq.{paste, paste-zero, paste-suc, length-paste, take-length, take-append-seam, drop-append-add, drop-drop}
-use Rattle.words.specs.Words.{front}
+use Rattle.buffers.specs.Put.{atFront}
 
 -- the first `done` numbers are copied
 pub record CopyHead (slice₀ : List ℕ) (at : ℕ) (numbers slice : List ℕ) (done : ℕ) : Type 0 where
@@ -36,11 +36,11 @@ module _ {slice₀ : List ℕ} {at : ℕ} {numbers slice : List ℕ} {done : ℕ
       head .copied ∙ ap (paste slice₀ at numbers) all
 
 -- all numbers from the first place on are the slice's front
-paste-front : (slice numbers : List ℕ) → paste slice 0 numbers (length numbers) ≡ front numbers slice
+paste-front : (slice numbers : List ℕ) → paste slice 0 numbers (length numbers) ≡ atFront numbers slice
 paste-front slice numbers = rw (take-length numbers, zero-add (length numbers))
 
 -- numbers that follow a front make a longer one
-paste-after : (head numbers slice : List ℕ) → paste (front head slice) (length head) numbers (length numbers) ≡ front (head ++ numbers) slice
+paste-after : (head numbers slice : List ℕ) → paste (atFront head slice) (length head) numbers (length numbers) ≡ atFront (head ++ numbers) slice
 paste-after head numbers slice =
     rw (
       take-append-seam head (drop (length head) slice),
@@ -51,9 +51,9 @@ paste-after head numbers slice =
     )
 
 module _ (slice exit numbers : List ℕ) {count : ℕ} (all : length numbers ≡ count) where
-  pub put-front : exit ≡ paste slice 0 numbers count → exit ≡ front numbers slice
+  pub put-front : exit ≡ paste slice 0 numbers count → exit ≡ atFront numbers slice
   put-front put = put ∙ rw (← all) (paste-front slice numbers)
 
-  pub put-after : (head between : List ℕ) {at : ℕ} → length head ≡ at → between ≡ front head slice → exit ≡ paste between at numbers count
-      → exit ≡ front (head ++ numbers) slice
+  pub put-after : (head between : List ℕ) {at : ℕ} → length head ≡ at → between ≡ atFront head slice → exit ≡ paste between at numbers count
+      → exit ≡ atFront (head ++ numbers) slice
   put-after head between place first put = put ∙ rw (← all, ← place, first) (paste-after head numbers slice)

@@ -5,7 +5,7 @@ use mathlib.Core.List.{List, [], _∷_, _++_}
 use mathlib.Core.Bool.{cond}
 use lib.Dec.{ltb}
 use lib.IntN.{ℤ, pos, negsuc}
-use lib.ListN.{length, drop, set}
+use lib.ListN.{set}
 use Rattle.joint.specs.declared.Face.{Face}
 use Rattle.joint.specs.declared.Joint.{Joint}
 use Rattle.joint.specs.declared.Loads.{Loads}
@@ -53,7 +53,3 @@ headOf joint = set (fieldsOf joint) 26 (wordOfAxial (joint .face .loads .axial))
 -- the words of a joint
 abbrev pub wordsOf : Joint → List ℕ
 wordsOf joint = headOf joint ++ joint .face .levers
-
--- numbers at the front of a slice, which is as it was past them
-abbrev pub front : List ℕ → List ℕ → List ℕ
-front numbers slice = numbers ++ drop (length numbers) slice

@@ -2,7 +2,8 @@
 ghost use mathlib.Core.Path.{_≡_};
 ghost use Prim.Native.Nat.{_≤_};
 ghost use lib.ListN.{length};
-ghost use Rattle.words.specs.Words.{axialOfWord, wordOfAxial, loadsOfWords, leversOfWords, faceOfWords, jointOfWords, headOf, wordsOf, front};
+ghost use Rattle.words.specs.Words.{axialOfWord, wordOfAxial, loadsOfWords, leversOfWords, faceOfWords, jointOfWords, headOf, wordsOf};
+ghost use Rattle.buffers.specs.Put.{atFront};
 use crate::put::put_eight_u32;
 use crate::put::put_u32;
 use joint::Face;
@@ -100,7 +101,7 @@ fn head_of(joint: Joint) -> [u32; 29]
 // Puts a joint's words at the front of a slice.
 pub fn put_joint(joint: Joint, words: &mut [u32])
     requires { ⌜ 37 ≤ length (now words) ⌝ }
-    ensures { λ _. ⌜ now (words .exit) ≡ front (wordsOf joint) (now (words .entry)) ⌝ }
+    ensures { λ _. ⌜ now (words .exit) ≡ atFront (wordsOf joint) (now (words .entry)) ⌝ }
 {
     let face = joint.face;
     let levers = face.levers;

@@ -2,7 +2,7 @@
 ghost use mathlib.Core.Path.{_≡_};
 ghost use Prim.Native.Nat.{_≤_};
 ghost use lib.ListN.{length};
-ghost use Rattle.words.specs.Words.{front};
+ghost use Rattle.buffers.specs.Put.{atFront};
 ghost use Rattle.words.specs.Outcomes.{checkNumber, flag, toldOf, figuresOf, outcomeWords};
 use crate::put::put_eight_u64;
 use crate::put::put_u64;
@@ -61,7 +61,7 @@ fn figures_of(outcome: Outcome) -> [u64; 9]
 // Puts the words at the front of a slice.
 pub fn put_outcome(outcome: Outcome, words: &mut [u64])
     requires { ⌜ 19 ≤ length (now words) ⌝ }
-    ensures { λ _. ⌜ now (words .exit) ≡ front (outcomeWords outcome) (now (words .entry)) ⌝ }
+    ensures { λ _. ⌜ now (words .exit) ≡ atFront (outcomeWords outcome) (now (words .entry)) ⌝ }
 {
     let forces = outcome.forces;
     let told = told_of(outcome);
