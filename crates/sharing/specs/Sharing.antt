@@ -20,7 +20,7 @@ lowered limit n i j = least (λ further. limit i (j + further)) (n - suc j)
 
 -- 'Each row gets the least, over groups ending at it, of the lowered limit less what the group's rows above have got.'
 -- `above` is what the rows above have got; the groups i to `length above` end at the next row. No group's rows above have got more
--- than its lowered limit, so the difference is never cut at 0 (`sum-le-from` in proofs/Sums.antt).
+-- than its lowered limit, so the difference is never cut at 0 (`sum-le` in proofs/Sums.antt).
 unfoldable pub nextForce : Table → ℕ → List ℕ → ℕ
 unfolding least lowered
 nextForce limit n above = least (λ i. lowered limit n i (length above) - total (drop i above)) (length above)
