@@ -17,10 +17,10 @@ infixl 65 _⊕_
 pub exactly : (n : ℕ) → Within (n to n) n
 exactly n = record { low = le-refl n; high = le-refl n }
 
-pub _⊗_ : {r s : Range} {x y : ℕ} → Within r x → Within s y → Within (r .least * s .least to r .most * s .most) (x * y)
+pub _⊗_ : {r s : Range} {x y : ℕ} → Within r x → Within s y → Within (r .low * s .low to r .high * s .high) (x * y)
 p ⊗ q = record { low = mul-le-mul (p .low) (q .low); high = mul-le-mul (p .high) (q .high) }
 
-pub _⊕_ : {r s : Range} {x y : ℕ} → Within r x → Within s y → Within (r .least + s .least to r .most + s .most) (x + y)
+pub _⊕_ : {r s : Range} {x y : ℕ} → Within r x → Within s y → Within (r .low + s .low to r .high + s .high) (x + y)
 p ⊕ q = record { low = add-le-add (p .low) (q .low); high = add-le-add (p .high) (q .high) }
 
 pub div-mono : {a b : ℕ} (k : ℕ) → a ≤ b → a / k ≤ b / k
@@ -28,23 +28,23 @@ div-mono {a} {b} zero h = le-of-eq (div-zero a ∙ sym (div-zero b))
 div-mono {a} (suc k) h = le-div-iff-mul-le (zero-lt-suc k) .1 (le-trans (div-mul-le-self a (suc k)) h)
 
 -- a quotient by a number that is written out
-pub _⊘_ : {r : Range} {x : ℕ} → Within r x → (k : ℕ) → Within (r .least / k to r .most / k) (x / k)
+pub _⊘_ : {r : Range} {x : ℕ} → Within r x → (k : ℕ) → Within (r .low / k to r .high / k) (x / k)
 p ⊘ k = record { low = div-mono k (p .low); high = div-mono k (p .high) }
 
-pub fits : {w : Width} {r : Range} {x : ℕ} → Within r x → T (ltb (r .most) (2 ^ bits w)) → Fits w x
+pub fits : {w : Width} {r : Range} {x : ℕ} → Within r x → T (ltb (r .high) (2 ^ bits w)) → Fits w x
 fits p t = fits-below t (p .high)
 
 -- a wider range, with simpler ends
-pub loosen : {r : Range} {x : ℕ} (s : Range) → Within r x → T (leb (s .least) (r .least) && leb (r .most) (s .most)) → Within s x
+pub loosen : {r : Range} {x : ℕ} (s : Range) → Within r x → T (leb (s .low) (r .low) && leb (r .high) (s .high)) → Within s x
 loosen {r} s p t =
-    let ends = and-yes (leb (s .least) (r .least)) (leb (r .most) (s .most)) t in
-    record { low = le-trans (leb→le (s .least) (r .least) (ends .0)) (p .low); high = le-trans (p .high) (leb→le (r .most) (s .most) (ends .1)) }
+    let ends = and-yes (leb (s .low) (r .low)) (leb (r .high) (s .high)) t in
+    record { low = le-trans (leb→le (s .low) (r .low) (ends .0)) (p .low); high = le-trans (p .high) (leb→le (r .high) (s .high) (ends .1)) }
 
 -- the fact from the test
 pub within-yes : (range : Range) (x : ℕ) → T (within range x) → Within range x
 within-yes range x t =
-    let halves = and-yes (leb (range .least) x) (leb x (range .most)) t in
-    record { low = leb→le (range .least) x (halves .0); high = leb→le x (range .most) (halves .1) }
+    let halves = and-yes (leb (range .low) x) (leb x (range .high)) t in
+    record { low = leb→le (range .low) x (halves .0); high = leb→le x (range .high) (halves .1) }
 
 -- a range that hangs on a test, asked at its ends
 pub within-either : (test : Bool) (a b c d x : ℕ) → within (cond test a c to cond test b d) x ≡ within (cond test (a to b) (c to d)) x

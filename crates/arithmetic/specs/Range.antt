@@ -6,15 +6,15 @@ use lib.Dec.{leb}
 
 infix 30 _to_
 pub record Range : Type 0 where
-  pub least : ℕ
-  pub most : ℕ
+  pub low : ℕ
+  pub high : ℕ
 
 abbrev pub _to_ : ℕ → ℕ → Range
-low to high = record { least = low; most = high }
+low to high = record { low = low; high = high }
 
 abbrev pub within : Range → ℕ → Bool
-within range x = leb (range .least) x && leb x (range .most)
+within range x = leb (range .low) x && leb x (range .high)
 
 pub record Within (range : Range) (x : ℕ) : Type 0 where
-  pub low : range .least ≤ x
-  pub high : x ≤ range .most
+  pub low : range .low ≤ x
+  pub high : x ≤ range .high

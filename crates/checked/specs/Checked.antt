@@ -7,7 +7,7 @@ use lib.ListN.{take}
 use lib.IntN.{ℤ, pos}
 use Rattle.joint.specs.declared.Joint.{Joint}
 use Rattle.joint.specs.declared.Column.{Column}
-use Rattle.numbers.specs.Outcome.{Outcome, got, refused}
+use Rattle.numbers.specs.Parse.{Parse, got, refused}
 use Rattle.numbers.specs.Number.{stored, readNumber}
 use Rattle.jointfile.specs.File.{reading}
 use Rattle.jointfile.specs.Write.{file}
@@ -20,7 +20,7 @@ use Rattle.stubs.specs.Bending.{effectiveEdge, effectiveLength, bending}
 use Rattle.stubs.specs.Web.{webTension}
 use Rattle.compression.specs.Compression.{webBuckling}
 use Rattle.work.specs.Work.{worked}
-use Rattle.sheets.specs.Sheet.{sheetOf}
+use Rattle.printer.specs.Sheet.{sheetOf}
 
 pub record Checked : Type 0 where
   pub given : List ℕ
@@ -61,7 +61,7 @@ checked-E = record { given = webTension 1000 0 130 265 ∷ []; stated = 595985 �
 
 -- F: web buckling with b 1973; the column's other fields don't count
 column-F : Column
-column-F = record { grade = 275; depth = 0; width = 0; flange = 0; web = 96; root = 0; clear = 4765 }
+column-F = record { grade = 275; depth = 0; width = 0; flange = 0; web = 96; radius = 0; clear = 4765 }
 
 checked-F : Checked
 unfolding column-F
@@ -76,7 +76,7 @@ unfolding thick
 checked-G = record { given = thick 219 ∷ thick 220 ∷ steelStrength 275 220 ∷ []; stated = 0 ∷ 1 ∷ 265 ∷ [] }
 
 -- H: 300 as it is stored, and the refusal of a longer form of it
-refusal : {A : Type 0} → Outcome A → ℕ
+refusal : {A : Type 0} → Parse A → ℕ
 refusal (got a left) = 0
 refusal (refused number) = number
 
@@ -87,7 +87,7 @@ checked-H = record { given = refusal (readNumber (0xAC ∷ 0x82 ∷ 0x00 ∷ [])
 -- I: the joint with an axial force N
 joint-I : ℤ → Joint
 joint-I axial = record {
-  column = record { grade = 275; depth = 5283; width = 2087; flange = 132; web = 96; root = 127; clear = 4765 };
+  column = record { grade = 275; depth = 5283; width = 2087; flange = 132; web = 96; radius = 127; clear = 4765 };
   bolts = record { class = 88; diameter = 20 };
   face = record {
     rows = 1;

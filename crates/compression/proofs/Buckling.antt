@@ -63,6 +63,3 @@ module _ (b yc : ℕ) (column : Column) (length : Within (420 to 6500) b) (stren
 
   pub buckling-only : (w : ℕ) → IsWebBuckling b yc column w → w ≡ webBuckling b yc column
   buckling-only w h = only-one h buckling-greatest
-
-  pub buckling-least : 10319 ≤ webBuckling b yc column
-  buckling-least = buckling-greatest .greatest 10319 (omega (arith, limit-range .low, r .clear .high))

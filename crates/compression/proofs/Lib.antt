@@ -1,2 +1,2 @@
 pub mod Buckling
-pub mod Least
+pub mod Ranges

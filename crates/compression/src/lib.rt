@@ -1,8 +1,8 @@
-// The compression side of a joint: four resistances in newtons, and which of them governs.
+// The compression side of a joint: its four resistances in newtons.
 ghost use mathlib.Core.Path.{_≡_};
 ghost use Rattle.arithmetic.specs.Range.{Within, _to_};
 ghost use Rattle.joint.specs.InRange.{ColumnInRange, BeamInRange, PlateInRange, WeldsInRange};
-ghost use Rattle.compression.specs.Compression.{PartsInRange, bearingLength, beamFlange, webBearing, webBuckling, panelShear, forceOf, lesser, governingCheck};
+ghost use Rattle.compression.specs.Compression.{PartsInRange, bearingLength, beamFlange, webBearing, webBuckling, panelShear, resistancesOf};
 
 mod root;
 
@@ -13,51 +13,35 @@ use joint::Welds;
 use root::Root;
 use strength::SteelStrengths;
 
-// A compression check with its force in newtons.
-pub enum CompressionCheck {
-    Flange(u64),
-    Bearing(u64),
-    Buckling(u64),
-    Panel(u64),
+// The four resistances of the compression side, in newtons.
+pub struct Resistances {
+    // beam flange
+    pub flange: u64,
+    // web bearing
+    pub bearing: u64,
+    // web buckling
+    pub buckling: u64,
+    // panel shear
+    pub panel: u64,
 }
 
-// The check that governs: the first least of the four. Work calls it for a joint whose fields are in range.
-pub fn governing(
+// Work calls it for a joint whose fields are in range.
+pub fn resistances_of(
     steel: SteelStrengths,
     column: Column,
     beam: Beam,
     plate: Plate,
     welds: Welds,
-) -> CompressionCheck
+) -> Resistances
     requires { ⌜ PartsInRange steel column beam plate welds ⌝ }
-    ensures { λ r. ⌜ r ≡ governingCheck steel column beam plate welds ⌝ }
+    ensures { λ r. ⌜ r ≡ resistancesOf steel column beam plate welds ⌝ }
 {
     let b = bearing_length(column, beam, plate, welds);
-    let flange = CompressionCheck::Flange(beam_flange(steel.beam, beam));
-    let bearing = CompressionCheck::Bearing(web_bearing(b, steel.column, column));
-    let buckling = CompressionCheck::Buckling(web_buckling(b, steel.column, column));
-    let panel = CompressionCheck::Panel(panel_shear(steel.column, column));
-    lesser_of(lesser_of(lesser_of(flange, bearing), buckling), panel)
-}
-
-pub fn force_of(check: CompressionCheck) -> u64
-    ensures { λ r. ⌜ r ≡ forceOf check ⌝ }
-{
-    match check {
-        CompressionCheck::Flange(force) => force,
-        CompressionCheck::Bearing(force) => force,
-        CompressionCheck::Buckling(force) => force,
-        CompressionCheck::Panel(force) => force,
-    }
-}
-
-fn lesser_of(first: CompressionCheck, second: CompressionCheck) -> CompressionCheck
-    ensures { λ r. ⌜ r ≡ lesser first second ⌝ }
-{
-    if force_of(first) <= force_of(second) {
-        first
-    } else {
-        second
+    Resistances {
+        flange: beam_flange(steel.beam, beam),
+        bearing: web_bearing(b, steel.column, column),
+        buckling: web_buckling(b, steel.column, column),
+        panel: panel_shear(steel.column, column),
     }
 }
 
@@ -69,7 +53,7 @@ fn bearing_length(column: Column, beam: Beam, plate: Plate, welds: Welds) -> u64
     let b = beam.flange
         + 2 * welds.flange
         + 2 * plate.thickness
-        + 5 * (column.flange + column.root);
+        + 5 * (column.flange + column.radius);
     b as u64
 }
 

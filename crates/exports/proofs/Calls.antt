@@ -9,7 +9,7 @@ use lib.ListN.{length}
 use Rattle.joint.specs.declared.Joint.{Joint}
 use Rattle.allocation.specs.declared.Allocation.{Allocation}
 use Rattle.allocation.specs.Allocation.{allocated}
-use Rattle.numbers.specs.Outcome.{Outcome as Reads, got, refused}
+use Rattle.numbers.specs.Parse.{Outcome as Reads, got, refused}
 use Rattle.numbers.specs.Number.{Bytes}
 use Rattle.jointfile.specs.File.{readJoint, answer, reading, leftOf, restOf}
 use Rattle.jointfile.specs.Write.{writing, writtenTold}
@@ -18,8 +18,8 @@ use Rattle.jointfile.specs.declared.Written.{Written}
 use Rattle.jointfile.proofs.Places.{left-shorter}
 use Rattle.outcome.specs.declared.Outcome.{Outcome}
 use Rattle.work.specs.Work.{worked}
-use Rattle.sheets.specs.Sheet.{printing, sheetLines, printedTold}
-use Rattle.sheets.specs.declared.Printed.{Printed}
+use Rattle.printer.specs.Sheet.{printing, sheetLines, printedTold}
+use Rattle.printer.specs.declared.Printed.{Printed}
 use Rattle.words.specs.Words.{jointOfWords, wordsOf}
 use Rattle.buffers.specs.Put.{atFront}
 use Rattle.words.specs.Outcomes.{outcomeWords}

@@ -12,7 +12,7 @@ use Rattle.jointfile.specs.Write.{Writing, writing}
 use Rattle.jointfile.specs.declared.Reading.{Reading}
 use Rattle.outcome.specs.declared.Outcome.{Outcome}
 use Rattle.work.specs.Work.{worked}
-use Rattle.sheets.specs.Sheet.{Printing, whole, cut, printing, sheetLines}
+use Rattle.printer.specs.Sheet.{Printing, whole, cut, printing, sheetLines}
 use Rattle.words.specs.Words.{jointOfWords, wordsOf}
 use Rattle.buffers.specs.Put.{atFront}
 use Rattle.words.specs.Outcomes.{outcomeWords}

@@ -5,7 +5,7 @@ ghost use mathlib.Core.Path.{_≡_};
 ghost use Rattle.jointfile.specs.File.{reading};
 ghost use Rattle.exports.specs.Calls.{allocateTold, allocating, readingInto, writingInto, workTold, workingInto, sheetingInto};
 use jointfile::Written;
-use sheets::Printed;
+use printer::Printed;
 
 // A joint's words.
 const JOINT_WORDS: usize = 37;
@@ -96,7 +96,7 @@ pub extern "C" fn jinqewan_work(fields: &[u32], outcome: &mut [u64]) -> u32
 pub extern "C" fn jinqewan_sheet(input: &[u8], output: &mut [u8], length: &mut usize) -> u32
     ensures { λ r. ⌜ record { number = r; output = now (output .exit); count = now (length .exit) } ≡ sheetingInto (now (input .entry)) (now (output .entry)) ⌝ }
 {
-    let printed = sheets::sheet(input, output);
+    let printed = printer::sheet(input, output);
     match printed {
         Printed::Length(total) => {
             *length = total;

@@ -37,7 +37,7 @@ columnOf fields =
       width = field 9 fields;
       flange = field 10 fields;
       web = field 11 fields;
-      root = field 12 fields;
+      radius = field 12 fields;
       clear = field 13 fields;
     }
 
@@ -96,7 +96,7 @@ fieldsOf joint =
     let welds = face .welds in
     let loads = face .loads in
     face .rows ∷ face .extended ∷ bolts .class ∷ bolts .diameter ∷ column .grade ∷ beam .grade ∷ plate .grade
-    ∷ column .depth ∷ column .width ∷ column .flange ∷ column .web ∷ column .root ∷ column .clear
+    ∷ column .depth ∷ column .width ∷ column .flange ∷ column .web ∷ column .radius ∷ column .clear
     ∷ beam .depth ∷ beam .width ∷ beam .flange ∷ beam .web ∷ plate .width ∷ plate .thickness
     ∷ layout .gauge ∷ layout .edge ∷ layout .alpha ∷ welds .flange ∷ welds .web ∷ welds .length ∷ face .«shear_rows»
     ∷ storedAxial (loads .axial) ∷ loads .shear ∷ loads .moment ∷ []

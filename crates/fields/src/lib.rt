@@ -43,7 +43,7 @@ pub fn column_of(fields: &[u32]) -> Column
         width: fields[8],
         flange: fields[9],
         web: fields[10],
-        root: fields[11],
+        radius: fields[11],
         clear: fields[12],
     }
 }
@@ -161,7 +161,7 @@ pub fn fields_of(joint: Joint) -> [u32; 29]
         joint.column.width,
         joint.column.flange,
         joint.column.web,
-        joint.column.root,
+        joint.column.radius,
         joint.column.clear,
         joint.face.beam.depth,
         joint.face.beam.width,

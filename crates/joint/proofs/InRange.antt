@@ -46,7 +46,7 @@ lever-test n row (x ∷ xs) (suc k) h =
     lever-test n (suc row) xs k (le-of-suc-le-suc h) ∙ ap (λ (i : ℕ). within (levers n i) (getD xs k 0)) (suc-add row k ∙ sym (add-suc row k))
 
 size : (force : ℤ) → T (withinBothSigns force) → Within loads (natAbs force)
-size (pos n) t = record { low = zero-le; high = leb→le n (loads .most) t }
+size (pos n) t = record { low = zero-le; high = leb→le n (loads .high) t }
 size (negsuc n) t = record { low = zero-le; high = let h = leb→le n 9999999 (and-yes (leb n 9999999) true t .0) in omega arith }
 
 module _ (joint : Joint) (found : fieldCheck joint ≡ AllInRange) where
@@ -81,7 +81,7 @@ module _ (joint : Joint) (found : fieldCheck joint ≡ AllInRange) where
           width = within-yes widths (column .width) (field 9);
           flange = within-yes flanges (column .flange) (field 10);
           web = within-yes webs (column .web) (field 11);
-          root = within-yes radii (column .root) (field 12);
+          radius = within-yes radii (column .radius) (field 12);
           clear = within-yes clears (column .clear) (field 13);
         };
         bolts = record { class = field 3; diameter = field 4 };

@@ -43,7 +43,7 @@ columnFields column =
     ∷ (9, within widths (column .width))
     ∷ (10, within flanges (column .flange))
     ∷ (11, within webs (column .web))
-    ∷ (12, within radii (column .root))
+    ∷ (12, within radii (column .radius))
     ∷ (13, within clears (column .clear))
     ∷ []
 
@@ -77,7 +77,7 @@ weldFields welds shearRows =
 
 -- −10000000 to 10000000, the ends of the loads' range with both signs
 abbrev pub withinBothSigns : ℤ → Bool
-withinBothSigns force = leZ (negℤ (pos (loads .most))) force && leZ force (pos (loads .most))
+withinBothSigns force = leZ (negℤ (pos (loads .high))) force && leZ force (pos (loads .high))
 
 -- 27 to 29
 abbrev pub loadFields : Loads → List Field

@@ -23,7 +23,7 @@ pub record ColumnInRange (column : Column) : Type 0 where
   pub width : Within widths (column .width)
   pub flange : Within flanges (column .flange)
   pub web : Within webs (column .web)
-  pub root : Within radii (column .root)
+  pub radius : Within radii (column .radius)
   pub clear : Within clears (column .clear)
 
 pub record BoltsInRange (bolts : Bolts) : Type 0 where

@@ -22,7 +22,7 @@ pub struct Column {
     // 11: web thickness tc
     pub web: u32,
     // 12: root radius rc
-    pub root: u32,
+    pub radius: u32,
     // 13: depth between fillets dc
     pub clear: u32,
 }
@@ -234,8 +234,8 @@ fn check_column(column: Column) -> FieldCheck
     let width = ranged(depth, 9, column.width, 500, 6000);
     let flange = ranged(width, 10, column.flange, 40, 500);
     let web = ranged(flange, 11, column.web, 30, 400);
-    let root = ranged(web, 12, column.root, 0, 400);
-    ranged(root, 13, column.clear, 500, 14000)
+    let radius = ranged(web, 12, column.radius, 0, 400);
+    ranged(radius, 13, column.clear, 500, 14000)
 }
 
 // Fields 14 to 17.

@@ -13,7 +13,7 @@ use Rattle.arithmetic.specs.Range.{within}
 use Rattle.joint.specs.Ranges.{rowCounts}
 use Rattle.joint.specs.declared.Joint.{Joint}
 use Rattle.numbers.specs.Run.{RunRead, storedAll, allZero}
-use Rattle.numbers.specs.Outcome.{got, refused}
+use Rattle.numbers.specs.Parse.{got, refused}
 use Rattle.numbers.specs.Number.{NumberRead}
 use Rattle.numbers.specs.declared.number.Number.the-variants.{Value, Refused as NumberRefused}
 use Rattle.numbers.specs.declared.run.Run.the-variants.{Next, Refused}

@@ -10,9 +10,9 @@ use Rattle.arithmetic.specs.Range.{within}
 use Rattle.joint.specs.Ranges.{rowCounts}
 use Rattle.joint.specs.declared.Joint.{Joint}
 use Rattle.numbers.specs.Run.{readNumbers, storedAll}
-use Rattle.numbers.specs.Outcome.{Outcome, got, refused}
+use Rattle.numbers.specs.Parse.{Parse, got, refused}
 use Rattle.numbers.specs.Number.{readNumber, Bytes}
-use Rattle.numbers.proofs.Refusals.{Numbered, numbered-cond, numbered-after, numbered-number, numbered-numbers}
+use Rattle.numbers.proofs.Refusals.{Numbered, numbered-cond, numbered-then, numbered-number, numbered-numbers}
 use Rattle.numbers.proofs.Sizes.{groups-positive}
 use Rattle.fields.specs.Fields.{fieldsOf}
 use Rattle.jointfile.specs.File.{readOthers, readJoint, answer, reading, leftOf, restOf}
@@ -22,14 +22,14 @@ use Rattle.jointfile.proofs.RoundTrip.{writes-again}
 pub next-within : (bytes : List ℕ) → reading bytes .next ≤ length bytes
 next-within bytes = go (readJoint bytes)
   where
-    go : (outcome : Outcome Joint) → answer (length bytes) outcome .next ≤ length bytes
+    go : (outcome : Parse Joint) → answer (length bytes) outcome .next ≤ length bytes
     go (got joint rest) = omega arith
     go (refused r) = omega arith
 
 pub next-left : (bytes : List ℕ) → Bytes bytes → drop (reading bytes .next) bytes ≡ restOf bytes
 next-left bytes all = go (readJoint bytes) refl
   where
-    go : (outcome : Outcome Joint) → readJoint bytes ≡ outcome → drop (answer (length bytes) outcome .next) bytes ≡ leftOf outcome
+    go : (outcome : Parse Joint) → readJoint bytes ≡ outcome → drop (answer (length bytes) outcome .next) bytes ≡ leftOf outcome
     go (got joint rest) e =
         let form = writes-again bytes joint rest all e .form in
         let place : length (file joint) ≡ length bytes - length rest = rw (← form, length-append) (omega arith) in
@@ -52,17 +52,17 @@ left-shorter bytes joint rest all e =
 numbered-joint : (bytes : List ℕ) → Numbered (readJoint bytes)
 unfolding readJoint readOthers
 numbered-joint bytes =
-    numbered-after (readNumber bytes) _ (numbered-number 0 bytes)
+    numbered-then (readNumber bytes) _ (numbered-number 0 bytes)
     (λ rows rest. numbered-cond (within rowCounts rows) _ _
-    (numbered-after (readNumbers 28 rest) _ (numbered-numbers 28 rest)
-    (λ others more. numbered-after (readNumbers rows more) _ (numbered-numbers rows more) (λ levers end. tt)))
+    (numbered-then (readNumbers 28 rest) _ (numbered-numbers 28 rest)
+    (λ others more. numbered-then (readNumbers rows more) _ (numbered-numbers rows more) (λ levers end. tt)))
     (omega arith))
 
 -- Refusal 0: a joint was read, and it is the one that is answered.
 pub read-taken : (bytes : List ℕ) → reading bytes .refusal ≡ 0 → readJoint bytes ≡ got (reading bytes .joint) (restOf bytes)
 read-taken bytes = go (readJoint bytes) (numbered-joint bytes)
   where
-    go : (outcome : Outcome Joint) → Numbered outcome → answer (length bytes) outcome .refusal ≡ 0
+    go : (outcome : Parse Joint) → Numbered outcome → answer (length bytes) outcome .refusal ≡ 0
         → outcome ≡ got (answer (length bytes) outcome .joint) (leftOf outcome)
     go (got joint rest) told e = refl
     go (refused r) told e = absurd (omega arith)
@@ -71,6 +71,6 @@ read-taken bytes = go (readJoint bytes) (numbered-joint bytes)
 pub read-refused : (bytes : List ℕ) → (reading bytes .refusal ≡ 0 → ⊥) → readJoint bytes ≡ refused (reading bytes .refusal)
 read-refused bytes = go (readJoint bytes)
   where
-    go : (outcome : Outcome Joint) → (answer (length bytes) outcome .refusal ≡ 0 → ⊥) → outcome ≡ refused (answer (length bytes) outcome .refusal)
+    go : (outcome : Parse Joint) → (answer (length bytes) outcome .refusal ≡ 0 → ⊥) → outcome ≡ refused (answer (length bytes) outcome .refusal)
     go (got joint rest) some = absurd (some refl)
     go (refused r) some = refl

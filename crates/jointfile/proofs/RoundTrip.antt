@@ -15,9 +15,9 @@ use Rattle.arithmetic.proofs.Tests.{split}
 use Rattle.joint.specs.Ranges.{rowCounts}
 use Rattle.joint.specs.declared.Joint.{Joint}
 use Rattle.numbers.specs.Run.{readNumbers, storedAll, allZero}
-use Rattle.numbers.specs.Outcome.{got, refused, after}
+use Rattle.numbers.specs.Parse.{got, refused, andThen}
 use Rattle.numbers.specs.Number.{stored, readNumber, Bytes}
-use Rattle.numbers.proofs.RunCodec.{read-storedAll, after-got, bytes-left, TakenAll, taken-all}
+use Rattle.numbers.proofs.RunCodec.{read-storedAll, then-got, bytes-left, TakenAll, taken-all}
 use Rattle.numbers.proofs.Codec.{read-stored, stored-read, number-small}
 use Rattle.numbers.proofs.Sizes.{storedAll-append}
 use Rattle.fields.specs.Fields.{jointOf, fieldsOf}
@@ -159,8 +159,8 @@ took-others : (bytes : List ℕ) (rows : ℕ) (bytes₁ : List ℕ) (joint : Joi
 unfolding readOthers
 took-others bytes rows bytes₁ joint left all first count e =
     let (others, bytes₂, read, e₁) =
-    after-got (readNumbers 28 bytes₁) (λ others rest. after (readNumbers rows rest) (λ levers end. got (jointOf (rows ∷ others) (eight levers)) end)) joint left e in
-    let (levers, end, read′, e₂) = after-got (readNumbers rows bytes₂) (λ levers end. got (jointOf (rows ∷ others) (eight levers)) end) joint left e₁ in
+    then-got (readNumbers 28 bytes₁) (λ others rest. andThen (readNumbers rows rest) (λ levers end. got (jointOf (rows ∷ others) (eight levers)) end)) joint left e in
+    let (levers, end, read′, e₂) = then-got (readNumbers rows bytes₂) (λ levers end. got (jointOf (rows ∷ others) (eight levers)) end) joint left e₁ in
     let form = stored-read bytes rows bytes₁ all first in
     let all₁ = bytes-left (stored rows) bytes₁ bytes form all in
     let taken = taken-all 28 bytes₁ others bytes₂ all₁ read in
@@ -175,7 +175,7 @@ pub writes-again : (bytes : List ℕ) (joint : Joint) (left : List ℕ) → Byte
 unfolding readJoint
 writes-again bytes joint left all e =
     let (rows, bytes₁, first, e₁) =
-    after-got (readNumber bytes) (λ rows rest. cond (within rowCounts rows) (readOthers rows rest) (refused 3)) joint left e in
+    then-got (readNumber bytes) (λ rows rest. cond (within rowCounts rows) (readOthers rows rest) (refused 3)) joint left e in
     counted rows bytes₁ first (within rowCounts rows) refl e₁
   where
     counted : (rows : ℕ) (bytes₁ : List ℕ) → readNumber bytes ≡ got rows bytes₁ → (t : Bool) → within rowCounts rows ≡ t

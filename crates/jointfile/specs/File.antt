@@ -7,7 +7,7 @@ use lib.ListN.{length, replicate}
 use Rattle.arithmetic.specs.Range.{within}
 use Rattle.joint.specs.Ranges.{rowCounts}
 use Rattle.joint.specs.declared.Joint.{Joint}
-use Rattle.numbers.specs.Outcome.{Outcome, got, refused, after}
+use Rattle.numbers.specs.Parse.{Parse, got, refused, andThen}
 use Rattle.numbers.specs.Number.{readNumber}
 use Rattle.numbers.specs.Run.{readNumbers}
 use Rattle.fields.specs.Fields.{jointOf}
@@ -18,21 +18,21 @@ abbrev pub eight : List ℕ → List ℕ
 eight levers = levers ++ replicate (8 - length levers) 0
 
 -- what follows field 1: fields 2 to 29, and the levers of the rows
-unfoldable pub readOthers : ℕ → List ℕ → Outcome Joint
+unfoldable pub readOthers : ℕ → List ℕ → Parse Joint
 readOthers rows bytes =
-    after (readNumbers 28 bytes)
-    (λ others left. after (readNumbers rows left) (λ levers rest. got (jointOf (rows ∷ others) (eight levers)) rest))
+    andThen (readNumbers 28 bytes)
+    (λ others left. andThen (readNumbers rows left) (λ levers rest. got (jointOf (rows ∷ others) (eight levers)) rest))
 
 -- A joint: 3 is told when field 1 is read, before anything of field 2 is; no other range is looked at.
-unfoldable pub readJoint : List ℕ → Outcome Joint
-readJoint bytes = after (readNumber bytes) (λ rows left. cond (within rowCounts rows) (readOthers rows left) (refused 3))
+unfoldable pub readJoint : List ℕ → Parse Joint
+readJoint bytes = andThen (readNumber bytes) (λ rows left. cond (within rowCounts rows) (readOthers rows left) (refused 3))
 
 -- What stands in the joint's place in a refusal: every field is 0.
 unfoldable pub noJoint : Joint
 noJoint = jointOf (replicate 29 0) (replicate 8 0)
 
 -- What `read` answers of bytes that end at `end`: 0, the joint and the place after it; or the refusal, no joint and the end.
-abbrev pub answer : ℕ → Outcome Joint → Reading
+abbrev pub answer : ℕ → Parse Joint → Reading
 answer end (got joint left) = record { refusal = 0; joint = joint; next = end - length left }
 answer end (refused r) = record { refusal = r; joint = noJoint; next = end }
 
@@ -40,7 +40,7 @@ abbrev pub reading : List ℕ → Reading
 reading bytes = answer (length bytes) (readJoint bytes)
 
 -- the bytes after the first joint, none where it can't be read
-abbrev pub leftOf : Outcome Joint → List ℕ
+abbrev pub leftOf : Parse Joint → List ℕ
 leftOf (got joint left) = left
 leftOf (refused r) = []
 

@@ -21,7 +21,7 @@ ghost use lib.Dec.{leb};
 ghost use lib.ListN.{length, getD, drop};
 ghost use Rattle.arithmetic.specs.Range.{within};
 ghost use Rattle.joint.specs.Ranges.{rowCounts};
-ghost use Rattle.numbers.specs.Outcome.{refused};
+ghost use Rattle.numbers.specs.Parse.{refused};
 ghost use Rattle.numbers.specs.Run.{storedAll};
 ghost use Rattle.jointfile.specs.File.{readOthers, answer, reading, restOf};
 ghost use Rattle.jointfile.specs.Write.{placed, writingRows, writing, writtenTold};

@@ -5,8 +5,8 @@ use mathlib.Core.List.{List, [], _∷_, _++_, map}
 use mathlib.Core.Bool.{Bool, cond}
 use lib.Dec.{leb, eqb}
 use lib.ListN.{length, take, drop}
-use Rattle.compression.specs.declared.CompressionCheck.{CompressionCheck}
-use Rattle.compression.specs.declared.CompressionCheck.the-variants.{Flange, Bearing, Buckling, Panel}
+use Rattle.governing.specs.declared.CompressionCheck.{CompressionCheck}
+use Rattle.governing.specs.declared.CompressionCheck.the-variants.{Flange, Bearing, Buckling, Panel}
 use Rattle.outcome.specs.declared.Outcome.{Outcome}
 use Rattle.items.specs.Digits.{decimal}
 use Rattle.items.specs.Items.{Item, letter, spaced}

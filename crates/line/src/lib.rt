@@ -1,6 +1,6 @@
 // Lines of the sheet (document 01, 'Sheet program'): what working a joint came to, and what a joint that can't be read was refused for,
 // each put whole into a lent buffer or not at all.
-use compression::CompressionCheck;
+use governing::CompressionCheck;
 use items::number::digit_count;
 use items::number::put_number;
 use items::numbers_size;

@@ -10,7 +10,7 @@ use native.Mathlib.Nat.{pow-suc, one-le-pow}
 use borrow.Author.Tests.{lt-ltb, le-ltb, le-leb, lt-leb, ne-eqb, eq-eqb}
 use lib.Dec.{leb, ltb, eqb}
 use Rattle.arithmetic.proofs.Tests.{split}
-use Rattle.numbers.specs.Outcome.{Outcome, got, refused}
+use Rattle.numbers.specs.Parse.{Parse, got, refused}
 use Rattle.numbers.specs.Number.{groups, stored, above, readGroups, readNumber, Bytes}
 
 -- no fifth byte above 15
@@ -65,7 +65,7 @@ pub read-stored : (x : ℕ) → x < 2 ^ 32 → (left : List ℕ) → readNumber 
 read-stored x small left = read-groups 4 x 0 left refl small (λ h. absurd (omega arith))
 
 -- what stands above a lowest group was read
-above-got : (low x : ℕ) (left : List ℕ) (outcome : Outcome ℕ) → above 128 low outcome ≡ got x left
+above-got : (low x : ℕ) (left : List ℕ) (outcome : Parse ℕ) → above 128 low outcome ≡ got x left
     → (high : ℕ) × (outcome ≡ got high left) × (x ≡ low + 128 * high)
 above-got low x left (got high rest) e = (high, cc, cc)
 above-got low x left (refused r) e = let z : _≡_ {A = ℕ} 0 1 = cc in absurd (omega arith)

@@ -13,17 +13,17 @@ use lib.Dec.{leb, ltb, eqb}
 use lib.ListN.{length, getD, drop, drop-of-length-le}
 use lib.Seq.{drop-cons}
 use Rattle.arithmetic.proofs.Tests.{split}
-use Rattle.numbers.specs.Outcome.{Outcome, got, refused}
+use Rattle.numbers.specs.Parse.{Parse, got, refused}
 use Rattle.numbers.specs.Number.{above, readGroups, readNumber, NumberRead}
 use Rattle.numbers.specs.declared.number.Number.the-variants.{Value, Refused}
 
 -- nothing read yet
-pub above-none : (outcome : Outcome ℕ) → outcome ≡ above 1 0 outcome
+pub above-none : (outcome : Parse ℕ) → outcome ≡ above 1 0 outcome
 above-none (got x left) = simp (zero-add, one-mul)
 above-none (refused r) = refl
 
 -- a group on top of those read
-above-above : (scale value low : ℕ) (outcome : Outcome ℕ)
+above-above : (scale value low : ℕ) (outcome : Parse ℕ)
     → above scale value (above 128 low outcome) ≡ above (scale * 128) (value + scale * low) outcome
 above-above scale value low (got x left) = simp (mul-add, mul-assoc, add-assoc)
 above-above scale value low (refused r) = refl

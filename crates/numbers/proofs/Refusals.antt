@@ -5,24 +5,24 @@ use mathlib.Core.List.{List, [], _∷_}
 use mathlib.Core.Bool.{Bool, true, false, cond, _&&_}
 use native.Mathlib.Omega.{arith}
 use lib.Dec.{leb, ltb, eqb}
-use Rattle.numbers.specs.Outcome.{Outcome, got, refused, after}
+use Rattle.numbers.specs.Parse.{Parse, got, refused, andThen}
 use Rattle.numbers.specs.Number.{above, readGroups, readNumber}
 use Rattle.numbers.specs.Run.{readNumbers}
 
-abbrev pub Numbered : {A : Type 0} → Outcome A → Type 0
+abbrev pub Numbered : {A : Type 0} → Parse A → Type 0
 Numbered (got a left) = Unit {0}
 Numbered (refused r) = 0 < r
 
-pub numbered-cond : {A : Type 0} (t : Bool) (one other : Outcome A) → Numbered one → Numbered other → Numbered (cond t one other)
+pub numbered-cond : {A : Type 0} (t : Bool) (one other : Parse A) → Numbered one → Numbered other → Numbered (cond t one other)
 numbered-cond true one other told told′ = told
 numbered-cond false one other told told′ = told′
 
-pub numbered-after : {A B : Type 0} (outcome : Outcome A) (next : A → List ℕ → Outcome B) → Numbered outcome
-    → ((a : A) (rest : List ℕ) → Numbered (next a rest)) → Numbered (after outcome next)
-numbered-after (got a rest) next told tells = tells a rest
-numbered-after (refused r) next told tells = told
+pub numbered-then : {A B : Type 0} (outcome : Parse A) (next : A → List ℕ → Parse B) → Numbered outcome
+    → ((a : A) (rest : List ℕ) → Numbered (next a rest)) → Numbered (andThen outcome next)
+numbered-then (got a rest) next told tells = tells a rest
+numbered-then (refused r) next told tells = told
 
-numbered-above : (scale low : ℕ) (outcome : Outcome ℕ) → Numbered outcome → Numbered (above scale low outcome)
+numbered-above : (scale low : ℕ) (outcome : Parse ℕ) → Numbered outcome → Numbered (above scale low outcome)
 numbered-above scale low (got x rest) told = tt
 numbered-above scale low (refused r) told = told
 
@@ -39,5 +39,5 @@ pub numbered-numbers : (count : ℕ) (bytes : List ℕ) → Numbered (readNumber
 unfolding readNumbers
 numbered-numbers zero bytes = tt
 numbered-numbers (suc count) bytes =
-    numbered-after (readNumber bytes) _ (numbered-number 0 bytes)
-    (λ x rest. numbered-after (readNumbers count rest) _ (numbered-numbers count rest) (λ xs end. tt))
+    numbered-then (readNumber bytes) _ (numbered-number 0 bytes)
+    (λ x rest. numbered-then (readNumbers count rest) _ (numbered-numbers count rest) (λ xs end. tt))

@@ -7,33 +7,33 @@ use native.Mathlib.Omega.{arith}
 use native.Mathlib.Numerals.{add-one}
 use lib.ListN.{length, take, drop, set, length-set}
 use lib.Seq.{take-all, take-suc-set}
-use Rattle.numbers.specs.Outcome.{Outcome, got, refused, after}
+use Rattle.numbers.specs.Parse.{Parse, got, refused, andThen}
 use Rattle.numbers.specs.Number.{readNumber, NumberRead}
 use Rattle.numbers.specs.Run.{readNumbers, RunRead}
 use Rattle.numbers.specs.declared.number.Number.the-variants.{Value, Refused as NumberRefused}
 use Rattle.numbers.specs.declared.run.Run.the-variants.{Next, Refused}
 
 -- these numbers, and then those of the outcome
-abbrev pub prepend : List ℕ → Outcome (List ℕ) → Outcome (List ℕ)
+abbrev pub prepend : List ℕ → Parse (List ℕ) → Parse (List ℕ)
 prepend xs (got ys left) = got (xs ++ ys) left
 prepend xs (refused r) = refused r
 
-prepend-none : (outcome : Outcome (List ℕ)) → outcome ≡ prepend [] outcome
+prepend-none : (outcome : Parse (List ℕ)) → outcome ≡ prepend [] outcome
 prepend-none (got xs left) = refl
 prepend-none (refused r) = refl
 
-prepend-prepend : (xs ys : List ℕ) (outcome : Outcome (List ℕ)) → prepend xs (prepend ys outcome) ≡ prepend (xs ++ ys) outcome
+prepend-prepend : (xs ys : List ℕ) (outcome : Parse (List ℕ)) → prepend xs (prepend ys outcome) ≡ prepend (xs ++ ys) outcome
 prepend-prepend xs ys (got zs left) = simp append-assoc
 prepend-prepend xs ys (refused r) = refl
 
-after-prepend : (x : ℕ) (outcome : Outcome (List ℕ)) → after outcome (λ xs rest. got (x ∷ xs) rest) ≡ prepend (x ∷ []) outcome
-after-prepend x (got xs left) = refl
-after-prepend x (refused r) = refl
+then-prepend : (x : ℕ) (outcome : Parse (List ℕ)) → andThen outcome (λ xs rest. got (x ∷ xs) rest) ≡ prepend (x ∷ []) outcome
+then-prepend x (got xs left) = refl
+then-prepend x (refused r) = refl
 
 pub numbers-more : (count : ℕ) (bytes : List ℕ) (x : ℕ) (left : List ℕ) → readNumber bytes ≡ got x left
     → readNumbers (suc count) bytes ≡ prepend (x ∷ []) (readNumbers count left)
 unfolding readNumbers
-numbers-more count bytes x left e = rw e (after-prepend x (readNumbers count left))
+numbers-more count bytes x left e = rw e (then-prepend x (readNumbers count left))
 
 pub numbers-refused : (count : ℕ) (bytes : List ℕ) (r : ℕ) → readNumber bytes ≡ refused r → readNumbers (suc count) bytes ≡ refused r
 unfolding readNumbers

@@ -6,7 +6,7 @@ use mathlib.Core.List.{List, [], _∷_}
 use mathlib.Core.Bool.{cond, _&&_}
 use lib.Dec.{leb, ltb, eqb}
 use lib.ListN.{length, getD, drop}
-use Rattle.numbers.specs.Outcome.{Outcome, got, refused}
+use Rattle.numbers.specs.Parse.{Parse, got, refused}
 use Rattle.numbers.specs.declared.number.Number.{Number}
 use Rattle.numbers.specs.declared.number.Number.the-variants.{Value, Refused}
 
@@ -20,14 +20,14 @@ abbrev pub stored : ℕ → List ℕ
 stored x = groups 5 x
 
 -- The outcome of a number, where that of its groups above the lowest is given.
-abbrev pub above : ℕ → ℕ → Outcome ℕ → Outcome ℕ
+abbrev pub above : ℕ → ℕ → Parse ℕ → Parse ℕ
 above scale low (got x left) = got (low + scale * x) left
 above scale low (refused r) = refused r
 
 -- Reading a number, of which `before` groups are read. 1 where the bytes end. 2 there and then at a fifth byte above 15, so that a number
 -- never passes 4294967295; any other is judged at its last byte, and is 2 where its highest group is 0 and not the only one, since
 -- then a shorter form has the same value.
-unfoldable pub readGroups : ℕ → List ℕ → Outcome ℕ
+unfoldable pub readGroups : ℕ → List ℕ → Parse ℕ
 readGroups before [] = refused 1
 readGroups before (byte ∷ left) =
     cond (leb 4 before && ltb 15 byte) (refused 2)
@@ -35,11 +35,11 @@ readGroups before (byte ∷ left) =
     (cond (ltb 0 before && eqb byte 0) (refused 2) (got byte left))
     (above 128 (byte - 128) (readGroups (suc before) left)))
 
-abbrev pub readNumber : List ℕ → Outcome ℕ
+abbrev pub readNumber : List ℕ → Parse ℕ
 readNumber bytes = readGroups 0 bytes
 
 -- What each case of the enum `Number` says of the bytes: the value with the bytes from the next place on, or document 01's number.
-abbrev pub numberTold : List ℕ → Number → Outcome ℕ
+abbrev pub numberTold : List ℕ → Number → Parse ℕ
 numberTold bytes (Value x next) = got x (drop next bytes)
 numberTold bytes (Refused r) = refused r
 

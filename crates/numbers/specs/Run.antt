@@ -6,16 +6,16 @@ use mathlib.Core.List.{List, [], _∷_, _++_}
 use mathlib.Core.Bool.{Bool, true, _&&_}
 use lib.Dec.{eqb}
 use lib.ListN.{length, drop}
-use Rattle.numbers.specs.Outcome.{Outcome, got, refused, after}
+use Rattle.numbers.specs.Parse.{Parse, got, refused, andThen}
 use Rattle.numbers.specs.Number.{stored, readNumber}
 use Rattle.numbers.specs.declared.run.Run.{Run}
 use Rattle.numbers.specs.declared.run.Run.the-variants.{Next, Refused}
 
 -- so many numbers, one after another
-unfoldable pub readNumbers : ℕ → List ℕ → Outcome (List ℕ)
+unfoldable pub readNumbers : ℕ → List ℕ → Parse (List ℕ)
 readNumbers zero bytes = got [] bytes
 readNumbers (suc count) bytes =
-    after (readNumber bytes) (λ x left. after (readNumbers count left) (λ xs rest. got (x ∷ xs) rest))
+    andThen (readNumber bytes) (λ x left. andThen (readNumbers count left) (λ xs rest. got (x ∷ xs) rest))
 
 -- the stored forms of numbers, one after another
 unfoldable pub storedAll : List ℕ → List ℕ
@@ -28,7 +28,7 @@ allZero [] = true
 allZero (x ∷ xs) = eqb x 0 && allZero xs
 
 -- What each case of the enum `Run` says, where the numbers that were read stand in `values`.
-abbrev pub runTold : List ℕ → List ℕ → Run → Outcome (List ℕ)
+abbrev pub runTold : List ℕ → List ℕ → Run → Parse (List ℕ)
 runTold bytes values (Next next) = got values (drop next bytes)
 runTold bytes values (Refused r) = refused r
 

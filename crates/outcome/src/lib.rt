@@ -1,7 +1,7 @@
-// What working a joint comes to: the room between Work, which makes it, and the sheet, which prints it.
-use compression::CompressionCheck;
+// What working a joint comes to: between Work, which makes it, and the sheet, which prints it.
+use governing::CompressionCheck;
 
-// Whether a joint passes each check.
+// Whether a face passes each check.
 pub struct Verdicts {
     pub bending: bool,
     pub bolts: bool,
@@ -9,12 +9,16 @@ pub struct Verdicts {
     pub web_weld: bool,
 }
 
-// What Work answers. In a refusal the figures are 0, the check is Flange with 0, and the verdicts are no.
-pub struct Outcome {
+// What a joint was refused for.
+pub struct Refusal {
     // document 01's number, 0 when nothing is refused
-    pub refusal: u32,
+    pub number: u32,
     // the first field out of range, with refusal 10; else 0
     pub field: u32,
+}
+
+// What one face of the column comes to. In a refusal the figures are 0, the check is Flange with 0, and the verdicts are no.
+pub struct FaceResult {
     // newtons, row 1 first; 0 past the last row
     pub forces: [u64; 8],
     // of the forces, newtons
@@ -25,4 +29,10 @@ pub struct Outcome {
     // the compression check that governs, with its newtons
     pub check: CompressionCheck,
     pub verdicts: Verdicts,
+}
+
+// What Work answers.
+pub struct Outcome {
+    pub refusal: Refusal,
+    pub result: FaceResult,
 }

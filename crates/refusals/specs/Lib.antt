@@ -1,3 +1,2 @@
--- Refusals 11, 12, 13 and 15 as tests of a joint, and the tension cap.
+-- Refusals 11, 12 and 13 as tests of a face.
 pub mod Refusals
-pub mod Cap

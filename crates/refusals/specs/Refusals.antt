@@ -5,13 +5,10 @@ use mathlib.Core.Bool.{Bool, cond, _&&_, _||_}
 use mathlib.Core.List.{List}
 use lib.Dec.{ltb, eqb}
 use lib.ListN.{getD, take}
-use lib.IntN.{pos}
-use lib.Signed.{ltZ}
 use Rattle.arithmetic.specs.Range.{Within}
 use Rattle.arithmetic.specs.Table.{every}
 use Rattle.joint.specs.Ranges.{depths, flanges}
 use Rattle.joint.specs.declared.Face.{Face}
-use Rattle.joint.specs.declared.Loads.{Loads}
 use Rattle.spacing.specs.declared.Spacing.{Spacing}
 
 -- 11 'a lever not below the one above it' is what makes it false
@@ -38,10 +35,6 @@ tooTight extended spacing =
     || (ltb (spacing .plate) 500
     || ((eqb extended 1 && ltb (spacing .extension) 500)
     || (ltb (spacing .«column_edge») 1000 || ltb (spacing .«plate_edge») 1000)))
-
--- 15 'N above the governing compression force'
-unfoldable pub overCompressed : Loads → (force : ℕ) → Bool
-overCompressed loads force = ltZ (pos force) (loads .axial)
 
 -- What finding the rows in place relies on: each of it from fields in range.
 pub record PlacesInRange (face : Face) : Type 0 where

@@ -4,19 +4,9 @@ ghost use mathlib.Core.Path.{_≡_};
 ghost use Prim.Native.Nat.{ℕ, _≤_};
 ghost use lib.ListN.{length, getD, take};
 ghost use Rattle.arithmetic.specs.Table.{every};
-ghost use Rattle.joint.specs.InRange.{LoadsInRange};
 ghost use Rattle.refusals.specs.Refusals.{belowAbove, between, rowsInPlace, tooTight, PlacesInRange};
-ghost use Rattle.refusals.specs.Cap.{capCase};
-use joint::AxialForce;
 use joint::Face;
-use joint::Loads;
 use spacing::Spacing;
-
-// The tension cap in newtons, or that N is above the governing force.
-pub enum Cap {
-    Newtons(u64),
-    Exceeded,
-}
 
 // Every lever but the first is below the one above it. (A list of eight levers has eight: said for the caller's sake.)
 pub fn levers_fall(rows: usize, levers: [u32; 8]) -> bool
@@ -83,22 +73,4 @@ pub fn too_tight(extended: u32, spacing: Spacing) -> bool
         | ((spacing.plate < 500)
             | (((extended == 1) & (spacing.extension < 500))
                 | ((spacing.column_edge < 1000) | (spacing.plate_edge < 1000))))
-}
-
-// Refusal 15 and the cap, by the sign of N.
-pub fn tension_cap(force: u64, loads: Loads) -> Cap
-    requires { ⌜ (force ≤ 10000000) × LoadsInRange loads ⌝ }
-    ensures { λ r. ⌜ r ≡ capCase loads force ⌝ }
-{
-    let axial = joint::axial_force(loads.axial);
-    match axial {
-        AxialForce::Compression(n) => {
-            if force < (n as u64) {
-                Cap::Exceeded
-            } else {
-                Cap::Newtons(force - (n as u64))
-            }
-        }
-        AxialForce::Tension(n) => Cap::Newtons(force + (n as u64)),
-    }
 }

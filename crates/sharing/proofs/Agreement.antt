@@ -7,11 +7,11 @@ use native.Mathlib.Omega.{arith}
 use mathlib.Core.List.{List, [], _∷_, _++_}
 use lib.ListN.{length, drop}
 use Rattle.sharing.specs.Groups.{Table, total}
-use Rattle.sharing.specs.Sharing.{least, lowered, nextForce, forcesDownTo, shared}
+use Rattle.sharing.specs.Sharing.{leastUpTo, lowered, nextForce, forcesDownTo, shared}
 use Rattle.sharing.proofs.Sums.{length-forces}
 
-least-agrees : (f g : ℕ → ℕ) (k : ℕ) → ((i : ℕ) → i ≤ k → f i ≡ g i) → least f k ≡ least g k
-unfolding least
+least-agrees : (f g : ℕ → ℕ) (k : ℕ) → ((i : ℕ) → i ≤ k → f i ≡ g i) → leastUpTo f k ≡ leastUpTo g k
+unfolding leastUpTo
 least-agrees f g zero same = same 0 (le-refl 0)
 least-agrees f g (suc k) same = ap₂ min (least-agrees f g k (λ i h. same i (le-step h))) (same (suc k) (le-refl (suc k)))
 

@@ -12,7 +12,7 @@ use lib.ListN.{length}
 use lib.Seq.{take-all}
 use lib.Dec.{eqb}
 use borrow.Author.Tests.{eq-eqb, eqb-true}
-use Rattle.sharing.specs.Groups.{Table, total, groupSum, joined}
+use Rattle.sharing.specs.Groups.{Table, total, groupSum, withCap}
 use Rattle.sharing.specs.Sharing.{Competes}
 
 -- the group of all rows
@@ -21,21 +21,21 @@ unfolding groupSum
 whole xs k e = ap total (take-all (suc k - 0) xs (omega (arith, e)))
 
 module _ (limit : Table) (n cap : ℕ) where
-  joined-le : (i j : ℕ) → joined limit n cap i j ≤ limit i j
-  unfolding joined
-  joined-le i j = go (eqb i 0 && eqb (suc j) n)
+  withCap-le : (i j : ℕ) → withCap limit n cap i j ≤ limit i j
+  unfolding withCap
+  withCap-le i j = go (eqb i 0 && eqb (suc j) n)
     where
       go : (t : Bool) → cond t (min (limit i j) cap) (limit i j) ≤ limit i j
       go true = min-le-left _ _
       go false = le-refl _
 
-  joined-whole : (k : ℕ) → n ≡ suc k → joined limit n cap 0 k ≤ cap
-  unfolding joined
-  joined-whole k e = rw (eq-eqb (suc k) n (sym e)) (min-le-right _ _)
+  withCap-whole : (k : ℕ) → n ≡ suc k → withCap limit n cap 0 k ≤ cap
+  unfolding withCap
+  withCap-whole k e = rw (eq-eqb (suc k) n (sym e)) (min-le-right _ _)
 
-  le-joined : (i j x : ℕ) → x ≤ limit i j → (i ≡ 0 → suc j ≡ n → x ≤ cap) → x ≤ joined limit n cap i j
-  unfolding joined
-  le-joined i j x below capped = go (eqb i 0) (eqb (suc j) n) refl refl
+  le-withCap : (i j x : ℕ) → x ≤ limit i j → (i ≡ 0 → suc j ≡ n → x ≤ cap) → x ≤ withCap limit n cap i j
+  unfolding withCap
+  le-withCap i j x below capped = go (eqb i 0) (eqb (suc j) n) refl refl
     where
       go : (s t : Bool) → eqb i 0 ≡ s → eqb (suc j) n ≡ t → x ≤ cond (s && t) (min (limit i j) cap) (limit i j)
       go true true es et = le-min below (capped (eqb-true _ _ es) (eqb-true _ _ et))
@@ -43,7 +43,7 @@ module _ (limit : Table) (n cap : ℕ) where
       go false t es et = below
 
   module _ (forces : List ℕ) where
-    within-cap : (m : ℕ) → n ≡ m → Competes (joined limit n cap) n forces → total forces ≤ cap
+    within-cap : (m : ℕ) → n ≡ m → Competes (withCap limit n cap) n forces → total forces ≤ cap
     within-cap zero e c = none forces (omega (arith, c .rows))
       where
         none : (xs : List ℕ) → length xs ≡ 0 → total xs ≤ cap
@@ -51,14 +51,14 @@ module _ (limit : Table) (n cap : ℕ) where
         none (x ∷ xs) h = absurd (omega arith)
     within-cap (suc k) e c =
         let kept = c .keeps 0 k (omega arith) (omega (arith, e)) in
-        omega (arith, joined-whole k e, whole forces k (c .rows ∙ e))
+        omega (arith, withCap-whole k e, whole forces k (c .rows ∙ e))
 
-    pub cap-is-a-limit : Competes (joined limit n cap) n forces ↔ (Competes limit n forces × (total forces ≤ cap))
+    pub cap-is-a-limit : Competes (withCap limit n cap) n forces ↔ (Competes limit n forces × (total forces ≤ cap))
     cap-is-a-limit = (
-      (λ c. (record { rows = c .rows; keeps = λ i j h inside. le-trans (c .keeps i j h inside) (joined-le i j) }, within-cap n refl c)),
+      (λ c. (record { rows = c .rows; keeps = λ i j h inside. le-trans (c .keeps i j h inside) (withCap-le i j) }, within-cap n refl c)),
       (λ c. record {
         rows = c .0 .rows;
-        keeps = λ i j h inside. le-joined i j _ (c .0 .keeps i j h inside)
+        keeps = λ i j h inside. le-withCap i j _ (c .0 .keeps i j h inside)
             (λ top last. rw top (omega (arith, c .1, whole forces j (c .0 .rows ∙ sym last))));
       }),
     )

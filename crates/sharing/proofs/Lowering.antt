@@ -6,7 +6,7 @@ use Prim.Native.Nat.{ℕ, zero, suc, _+_, _-_, _≤_, _<_, min}
 use native.Mathlib.Nat.{le-trans, le-of-eq, le-antisymm, add-suc, suc-add, add-zero, min-le-left, min-le-right, le-min}
 use native.Mathlib.Omega.{arith}
 use Rattle.sharing.specs.Groups.{Table}
-use Rattle.sharing.specs.Sharing.{least, lowered}
+use Rattle.sharing.specs.Sharing.{leastUpTo, lowered}
 use Rattle.sharing.proofs.Least.{least-le, le-least}
 
 module _ (limit : Table) (n : ℕ) where
@@ -24,9 +24,9 @@ module _ (limit : Table) (n : ℕ) where
 
   -- the longest group keeps its limit
   pub lowered-last : (i j : ℕ) → suc j ≡ n → lowered limit n i j ≡ limit i j
-  unfolding lowered least
+  unfolding lowered leastUpTo
   lowered-last i j e =
-      let none : n - suc j ≡ 0 = omega arith in ap (least (λ d. limit i (j + d))) none ∙ ap (limit i) (add-zero j)
+      let none : n - suc j ≡ 0 = omega arith in ap (leastUpTo (λ d. limit i (j + d))) none ∙ ap (limit i) (add-zero j)
 
   pub lowered-next : (i j : ℕ) → suc j < n → lowered limit n i j ≡ min (limit i j) (lowered limit n i (suc j))
   unfolding lowered

@@ -11,7 +11,7 @@ use native.Mathlib.Numerals.{add-one}
 use lib.ListN.{length, take, drop, length-append}
 use lib.Seq.{take-append-le, take-all}
 use Rattle.sharing.specs.Groups.{Table, total}
-use Rattle.sharing.specs.Sharing.{least, lowered, nextForce, forcesDownTo}
+use Rattle.sharing.specs.Sharing.{leastUpTo, lowered, nextForce, forcesDownTo}
 use Rattle.sharing.proofs.Least.{least-le, le-least}
 use Rattle.sharing.proofs.Lowering.{lowered-grows}
 use Rattle.sharing.proofs.Totals.{total-snoc, total-cut}
@@ -45,9 +45,9 @@ module _ (limit : Table) (n : ℕ) where
 
   -- the force of row k, with the count of the rows above in the place of their list's length
   next : (k : ℕ) → nextForce limit n (forcesDownTo limit n k)
-      ≡ least (λ i. lowered limit n i k - total (drop i (forcesDownTo limit n k))) k
+      ≡ leastUpTo (λ i. lowered limit n i k - total (drop i (forcesDownTo limit n k))) k
   unfolding nextForce
-  next k = ap (λ m. least (λ i. lowered limit n i m - total (drop i (forcesDownTo limit n k))) m) (length-forces k)
+  next k = ap (λ m. leastUpTo (λ i. lowered limit n i m - total (drop i (forcesDownTo limit n k))) m) (length-forces k)
 
   pub sum-step : (k : ℕ) → sumDownTo limit n (suc k) ≡ sumDownTo limit n k + nextForce limit n (forcesDownTo limit n k)
   unfolding sumDownTo forcesDownTo

@@ -20,8 +20,8 @@ unfoldable pub groupSum : List ℕ → ℕ → ℕ → ℕ
 groupSum forces i j = total (take (suc j - i) (drop i forces))
 
 -- The cap 'joins the limits as one on group 1 to n'.
-unfoldable pub joined : Table → ℕ → ℕ → Table
-joined limit n cap i j = cond (eqb i 0 && eqb (suc j) n) (min (limit i j) cap) (limit i j)
+unfoldable pub withCap : Table → ℕ → ℕ → Table
+withCap limit n cap i j = cond (eqb i 0 && eqb (suc j) n) (min (limit i j) cap) (limit i j)
 
 -- 'Group 1–1, 1–2, .. 1–n, 2–2 and so on': how many groups stand before those that begin at row i.
 unfoldable pub groupsAbove : ℕ → ℕ → ℕ

@@ -8,22 +8,22 @@ use lib.ListN.{length, getD, drop}
 use Rattle.sharing.specs.Groups.{Table, total, groupSum}
 
 -- The least of f 0, f 1, .. f k.
-unfoldable pub least : (ℕ → ℕ) → ℕ → ℕ
-least f zero = f 0
-least f (suc k) = min (least f k) (f (suc k))
+unfoldable pub leastUpTo : (ℕ → ℕ) → ℕ → ℕ
+leastUpTo f zero = f 0
+leastUpTo f (suc k) = min (leastUpTo f k) (f (suc k))
 
 -- 'A limit is first lowered to the least limit of any group that begins at the same row and reaches at least as far':
 -- 0, 1, .. rows further, up to the last of n rows.
 unfoldable pub lowered : Table → ℕ → Table
-unfolding least
-lowered limit n i j = least (λ further. limit i (j + further)) (n - suc j)
+unfolding leastUpTo
+lowered limit n i j = leastUpTo (λ further. limit i (j + further)) (n - suc j)
 
 -- 'Each row gets the least, over groups ending at it, of the lowered limit less what the group's rows above have got.'
 -- `above` is what the rows above have got; the groups i to `length above` end at the next row. No group's rows above have got more
 -- than its lowered limit, so the difference is never cut at 0 (`sum-le` in proofs/Sums.antt).
 unfoldable pub nextForce : Table → ℕ → List ℕ → ℕ
-unfolding least lowered
-nextForce limit n above = least (λ i. lowered limit n i (length above) - total (drop i above)) (length above)
+unfolding leastUpTo lowered
+nextForce limit n above = leastUpTo (λ i. lowered limit n i (length above) - total (drop i above)) (length above)
 
 -- 'From the top': the forces of the first k of n rows.
 unfoldable pub forcesDownTo : Table → ℕ → ℕ → List ℕ

@@ -1,4 +1,4 @@
--- What `sheets::sheet` says of an output that holds any sheet: all of it was printed, since what printing gives there is the whole sheet.
+-- What `printer::sheet` says of an output that holds any sheet: all of it was printed, since what printing gives there is the whole sheet.
 -- Assumes nothing.
 use Prim.Native.Nat.{ℕ, _≤_}
 use mathlib.Core.Path.{_≡_, sym, ap, _∙_}
@@ -8,8 +8,8 @@ use lib.ListN.{length, drop, length-append}
 use lib.Seq.{length-take-le}
 use Rattle.numbers.specs.Number.{Bytes}
 use Rattle.buffers.specs.Put.{atFront}
-use Rattle.sheets.specs.Sheet.{sheetLines, sheetOf, whole, cut, printing}
-use Rattle.sheets.proofs.Sizes.{sheet-whole}
+use Rattle.printer.specs.Sheet.{sheetLines, sheetOf, whole, cut, printing}
+use Rattle.printer.proofs.Sizes.{sheet-whole}
 use Rattle.sheet.specs.Whole.{Whole}
 
 module _ (input output exit : List ℕ) (all : Bytes input) (room : 618355 ≤ length output) where

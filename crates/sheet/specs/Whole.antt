@@ -6,7 +6,7 @@ use mathlib.Core.List.{List}
 use lib.ListN.{length}
 use Rattle.io.specs.Counts.{Counts}
 use Rattle.buffers.specs.Put.{atFront}
-use Rattle.sheets.specs.Sheet.{sheetOf}
+use Rattle.printer.specs.Sheet.{sheetOf}
 
 pub record Whole (input output exit : List ℕ) (size : ℕ) : Type 0 where
   pub bytes : exit ≡ atFront (sheetOf input) output

@@ -1,7 +1,7 @@
 // The program `sheet`: joint files end to end on standard input, a line for each on standard output.
 use libc::STDIN_FILENO;
 use libc::STDOUT_FILENO;
-use sheets::Printed;
+use printer::Printed;
 ghost use Prim.Native.Nat.{_≤_};
 ghost use mathlib.Core.Path.{_≡_};
 ghost use lib.ListN.{length};
@@ -26,7 +26,7 @@ fn print_sheet(input: &[u8], output: &mut [u8]) -> usize
     requires { ⌜ 618355 ≤ length (now output) ⌝ }
     ensures { λ r. ⌜ Whole (now (input .entry)) (now (output .entry)) (now (output .exit)) r ⌝ }
 {
-    let printed = sheets::sheet(input, output);
+    let printed = printer::sheet(input, output);
     match printed {
         Printed::Length(size) => size,
         Printed::NoRoom => 0,

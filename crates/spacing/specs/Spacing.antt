@@ -10,7 +10,7 @@ use Rattle.spacing.specs.declared.Spacing.{Spacing}
 
 -- 'Column m = 5(g − tc) − 8rc'
 abbrev pub columnM : Column → Layout → ℕ
-columnM column layout = 5 * (layout .gauge - column .web) - 8 * column .root
+columnM column layout = 5 * (layout .gauge - column .web) - 8 * column .radius
 
 -- 'Plate m = 5(g − tb) − 8sw'
 abbrev pub plateM : Face → ℕ

@@ -25,7 +25,7 @@ pub fn spacing_of(column: Column, face: Face) -> Spacing
     let levers = face.levers;
     let gauge = face.layout.gauge;
     Spacing {
-        column: bolt_distance(gauge, column.web, column.root),
+        column: bolt_distance(gauge, column.web, column.radius),
         plate: bolt_distance(gauge, face.beam.web, face.welds.web),
         column_edge: edge_distance(column.width, gauge),
         plate_edge: edge_distance(face.plate.width, gauge),

@@ -5,7 +5,7 @@ use mathlib.Core.Bool.{Bool, true, false}
 use mathlib.Core.List.{List, [], _∷_, _++_}
 use lib.ListN.{length}
 use mir.Val.{boolByte}
-use Rattle.compression.specs.Compression.{forceOf}
+use Rattle.governing.specs.Governing.{forceOf}
 use Rattle.outcome.specs.declared.Outcome.{Outcome}
 use Rattle.vectors.specs.Answers.{checkNumber, flag, figures, outcomeItems}
 use Rattle.vectors.proofs.Places.{placesFrom, all-places}

@@ -6,7 +6,7 @@ use mathlib.Core.List.{List, [], _∷_}
 use lib.Dec.{eqb, leb}
 use lib.ListN.{getD}
 use Rattle.arithmetic.specs.Table.{oneOf}
-use Rattle.compression.specs.Compression.{forceOf}
+use Rattle.governing.specs.Governing.{forceOf}
 use Rattle.outcome.specs.declared.Outcome.{Outcome}
 use Rattle.vectors.specs.Answers.{checkNumber}
 

@@ -58,7 +58,7 @@ fn governing(outcome: Outcome, kind: u64) -> u64
 {
     let check = outcome.check;
     if (kind == 0) | (check_number(check) == kind) {
-        return compression::force_of(check);
+        return governing::force_of(check);
     }
     0
 }

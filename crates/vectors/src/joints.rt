@@ -4,7 +4,7 @@ use crate::stored::is_end;
 use crate::stored::joint_at;
 use crate::tell::are_items;
 use crate::tell::bad_record;
-use compression::CompressionCheck;
+use governing::CompressionCheck;
 use outcome::Outcome;
 ghost use mathlib.Core.Path.{_≡_};
 ghost use Rattle.vectors.specs.Answers.{checkNumber, outcomeItems};
@@ -44,7 +44,7 @@ fn items_of(outcome: Outcome) -> [u64; 19]
         outcome.newton_metres,
         outcome.cap,
         check_number(check),
-        compression::force_of(check),
+        governing::force_of(check),
         verdicts.bending as u64,
         verdicts.bolts as u64,
         verdicts.flange_weld as u64,

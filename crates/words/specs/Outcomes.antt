@@ -3,9 +3,9 @@
 use Prim.Native.Nat.{ℕ}
 use mathlib.Core.List.{List, [], _∷_, _++_}
 use mathlib.Core.Bool.{Bool, cond}
-use Rattle.compression.specs.declared.CompressionCheck.{CompressionCheck}
-use Rattle.compression.specs.declared.CompressionCheck.the-variants.{Flange, Bearing, Buckling, Panel}
-use Rattle.compression.specs.Compression.{forceOf}
+use Rattle.governing.specs.declared.CompressionCheck.{CompressionCheck}
+use Rattle.governing.specs.declared.CompressionCheck.the-variants.{Flange, Bearing, Buckling, Panel}
+use Rattle.governing.specs.Governing.{forceOf}
 use Rattle.outcome.specs.declared.Outcome.{Outcome}
 
 -- F, B, K, S in their order

@@ -6,7 +6,7 @@ ghost use Rattle.buffers.specs.Put.{atFront};
 ghost use Rattle.words.specs.Outcomes.{checkNumber, flag, toldOf, figuresOf, outcomeWords};
 use crate::put::put_eight_u64;
 use crate::put::put_u64;
-use compression::CompressionCheck;
+use governing::CompressionCheck;
 use outcome::Outcome;
 
 fn check_number(check: CompressionCheck) -> u64
@@ -40,7 +40,7 @@ fn figures_of(outcome: Outcome) -> [u64; 9]
     let check = outcome.check;
     let verdicts = outcome.verdicts;
     let number = check_number(check);
-    let force = compression::force_of(check);
+    let force = governing::force_of(check);
     let bending = flag_of(verdicts.bending);
     let bolts = flag_of(verdicts.bolts);
     let flange_weld = flag_of(verdicts.flange_weld);

@@ -14,7 +14,7 @@ use Rattle.strength.specs.Thickness.{bothTooThick}
 use Rattle.spacing.specs.Spacing.{spacingOf}
 use Rattle.tension.specs.Admissible.{Admissible}
 use Rattle.spacing.specs.declared.Spacing.{Spacing}
-use Rattle.compression.specs.Compression.{forceOf}
+use Rattle.governing.specs.Governing.{forceOf}
 use Rattle.outcome.specs.declared.Outcome.{Outcome}
 use Rattle.refusals.specs.Refusals.{leversFall, rowsInPlace, tooTight, overCompressed}
 use Rattle.work.specs.Joint.{steelOf, governingOf, capOf}

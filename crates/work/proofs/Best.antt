@@ -8,7 +8,7 @@ use lib.ListN.{length}
 use lib.Seq.{length-take-le, getD-take}
 use Rattle.joint.specs.declared.Joint.{Joint}
 use Rattle.joint.proofs.InRange.{row-lever}
-use Rattle.sharing.specs.Groups.{joined}
+use Rattle.sharing.specs.Groups.{withCap}
 use Rattle.sharing.specs.Sharing.{Competes, Falling}
 use Rattle.sharing.specs.Best.{Best}
 use Rattle.sharing.proofs.Theorems.{best}
@@ -35,15 +35,15 @@ module _ (joint : Joint) (a : Admissible joint) (eight : length (joint .face .le
         positive = λ k h. rw (getD-take n levers k 0 h) (row-lever (joint .face) (a .in-range .face) k h (omega (arith, enough)) .low);
       }
 
-  forces-best : Best (joined (limitOf joint) (rowsOf joint) (capOf joint)) (rowsOf joint) (forcesOf joint)
+  forces-best : Best (withCap (limitOf joint) (rowsOf joint) (capOf joint)) (rowsOf joint) (forcesOf joint)
   unfolding forcesOf
-  forces-best = best (joined (limitOf joint) (rowsOf joint) (capOf joint)) (rowsOf joint)
+  forces-best = best (withCap (limitOf joint) (rowsOf joint) (capOf joint)) (rowsOf joint)
 
   -- a list competes under the joined limits exactly when it keeps the limits and the cap
-  under : (other : List ℕ) → CompetesFor joint other → Competes (joined (limitOf joint) (rowsOf joint) (capOf joint)) (rowsOf joint) other
+  under : (other : List ℕ) → CompetesFor joint other → Competes (withCap (limitOf joint) (rowsOf joint) (capOf joint)) (rowsOf joint) other
   under other c = cap-is-a-limit (limitOf joint) (rowsOf joint) (capOf joint) other .1 (c .limits, c .capped)
 
-  over : (other : List ℕ) → Competes (joined (limitOf joint) (rowsOf joint) (capOf joint)) (rowsOf joint) other → CompetesFor joint other
+  over : (other : List ℕ) → Competes (withCap (limitOf joint) (rowsOf joint) (capOf joint)) (rowsOf joint) other → CompetesFor joint other
   over other c =
       let both = cap-is-a-limit (limitOf joint) (rowsOf joint) (capOf joint) other .0 c in
       record { limits = both .0; capped = both .1 }
@@ -51,9 +51,9 @@ module _ (joint : Joint) (a : Admissible joint) (eight : length (joint .face .le
   -- the program's list is the forces
   listed : programsList joint (resultOf joint) ≡ forcesOf joint
   unfolding resultOf forcesOf
-  listed = rows-kept (rowsOf joint) (joined (limitOf joint) (rowsOf joint) (capOf joint))
+  listed = rows-kept (rowsOf joint) (withCap (limitOf joint) (rowsOf joint) (capOf joint))
 
-  of-forces : (forces : List ℕ) → forcesOf joint ≡ forces → Best (joined (limitOf joint) (rowsOf joint) (capOf joint)) (rowsOf joint) forces
+  of-forces : (forces : List ℕ) → forcesOf joint ≡ forces → Best (withCap (limitOf joint) (rowsOf joint) (capOf joint)) (rowsOf joint) forces
   of-forces forces e = rw e at forces-best
 
   pub demand : Demand3 joint (resultOf joint)

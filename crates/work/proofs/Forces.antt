@@ -10,7 +10,7 @@ use lib.Seq.{getD-set-same, getD-set-other, take-at}
 use lib.Dec.{eqb}
 use borrow.Author.Tests.{eqb-true, eqb-false}
 use Rattle.arithmetic.proofs.Store.{store-keeps}
-use Rattle.sharing.specs.Groups.{Table, groupsAbove, listed, joined}
+use Rattle.sharing.specs.Groups.{Table, groupsAbove, listed, withCap}
 use Rattle.sharing.specs.Sharing.{shared}
 use Rattle.sharing.proofs.Places.{group-count-le, one-group-a-place}
 use Rattle.sharing.proofs.Agreement.{shared-agrees}
@@ -41,8 +41,8 @@ module _ (n cap : ℕ) (limit : Table) (table : List ℕ) (filled : Filled n lim
       let same = one-group-a-place n i j 0 (n - 1) h under (omega arith) (omega arith) (e ∙ sym whole) in
       other (same .0, omega (arith, same .1))
 
-  agrees : (i j : ℕ) → i ≤ j → j < n → listed n (set table (n - 1) stored) i j ≡ joined limit n cap i j
-  unfolding listed joined
+  agrees : (i j : ℕ) → i ≤ j → j < n → listed n (set table (n - 1) stored) i j ≡ withCap limit n cap i j
+  unfolding listed withCap
   agrees i j h under = go (eqb i 0) (eqb (suc j) n) refl refl
     where
       other : ((i ≡ 0) × (suc j ≡ n) → ⊥) → getD (set table (n - 1) stored) (groupsAbove n i + (j - i)) 0 ≡ limit i j
@@ -63,7 +63,7 @@ module _ (n cap : ℕ) (limit : Table) (table : List ℕ) (filled : Filled n lim
       go true false et el = other (λ w. eqb-false (suc j) n el (w .1))
       go false last et el = other (λ w. eqb-false i 0 et (w .0))
 
-  pub forces-agree : shared (listed n (set table (n - 1) stored)) n ≡ shared (joined limit n cap) n
+  pub forces-agree : shared (listed n (set table (n - 1) stored)) n ≡ shared (withCap limit n cap) n
   forces-agree = shared-agrees _ _ n agrees
 
   bounded : (k : ℕ) → getD (set table (n - 1) stored) k 0 ≤ 4000000000

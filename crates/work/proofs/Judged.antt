@@ -8,7 +8,7 @@ use mathlib.Core.List.{List, [], _∷_, _++_}
 use lib.ListN.{length, take, replicate}
 use lib.Dec.{leb, eqb}
 use Rattle.joint.specs.declared.Joint.{Joint}
-use Rattle.sharing.specs.Groups.{total, joined}
+use Rattle.sharing.specs.Groups.{total, withCap}
 use Rattle.sharing.proofs.Theorems.{best}
 use Rattle.allocation.specs.Allocation.{eightPlaces}
 use Rattle.verdicts.specs.Tally.{pullingRows}
@@ -35,7 +35,7 @@ top-judged extended forces = top-of-places (cond (eqb extended 0) 2 3) (8 - leng
 module _ (joint : Joint) where
   row-count : length (forcesOf joint) ≡ rowsOf joint
   unfolding forcesOf
-  row-count = best (joined (limitOf joint) (rowsOf joint) (capOf joint)) (rowsOf joint) .competes .rows
+  row-count = best (withCap (limitOf joint) (rowsOf joint) (capOf joint)) (rowsOf joint) .competes .rows
 
   pub pulling-le : pullingRows (forcesOf joint) ≤ rowsOf joint
   pulling-le = omega (arith, pulling-le-length (forcesOf joint), row-count)

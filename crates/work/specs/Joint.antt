@@ -8,11 +8,11 @@ use lib.IntN.{pos, natAbs, _-ℤ_}
 use Rattle.joint.specs.declared.Joint.{Joint}
 use Rattle.strength.specs.Steel.{steelStrengths}
 use Rattle.strength.specs.declared.SteelStrengths.{SteelStrengths}
-use Rattle.sharing.specs.Groups.{Table, joined}
+use Rattle.sharing.specs.Groups.{Table, withCap}
 use Rattle.sharing.specs.Sharing.{shared, moment}
 use Rattle.tension.specs.Limits.{groupLimit}
 use Rattle.compression.specs.Compression.{forceOf, governingCheck}
-use Rattle.compression.specs.declared.CompressionCheck.{CompressionCheck}
+use Rattle.governing.specs.declared.CompressionCheck.{CompressionCheck}
 use Rattle.verdicts.specs.Bending.{carries}
 use Rattle.verdicts.specs.Bolts.{boltsPass}
 use Rattle.verdicts.specs.Welds.{flangeWeldPasses, webWeldPasses}
@@ -44,7 +44,7 @@ capOf joint = natAbs (pos (forceOf (governingOf joint)) -ℤ joint .face .loads 
 -- 'It joins the limits as one on group 1 to n.'
 unfoldable pub forcesOf : Joint → List ℕ
 unfolding capOf
-forcesOf joint = shared (joined (limitOf joint) (rowsOf joint) (capOf joint)) (rowsOf joint)
+forcesOf joint = shared (withCap (limitOf joint) (rowsOf joint) (capOf joint)) (rowsOf joint)
 
 -- Z of a list of forces
 abbrev pub momentOf : Joint → List ℕ → ℕ

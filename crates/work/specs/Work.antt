@@ -13,8 +13,8 @@ use Rattle.allocation.specs.Allocation.{eightPlaces}
 use Rattle.strength.specs.Bolt.{boltStrengths}
 use Rattle.strength.specs.Thickness.{bothTooThick}
 use Rattle.spacing.specs.Spacing.{spacingOf}
-use Rattle.compression.specs.Compression.{forceOf}
-use Rattle.compression.specs.declared.CompressionCheck.the-variants.{Flange}
+use Rattle.governing.specs.Governing.{forceOf}
+use Rattle.governing.specs.declared.CompressionCheck.the-variants.{Flange}
 use Rattle.refusals.specs.Refusals.{leversFall, rowsInPlace, tooTight, overCompressed}
 use Rattle.work.specs.Joint.{steelOf, governingOf, capOf, forcesOf, momentOf, verdictsOf}
 use Rattle.outcome.specs.declared.Outcome.{Outcome}

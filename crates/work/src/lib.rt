@@ -5,7 +5,7 @@ ghost use Prim.Native.Nat.{ℕ, _≤_};
 ghost use lib.ListN.{getD};
 ghost use Rattle.joint.specs.InRange.{InRange};
 ghost use Rattle.strength.specs.Bolt.{boltStrengths};
-ghost use Rattle.sharing.specs.Groups.{joined};
+ghost use Rattle.sharing.specs.Groups.{withCap};
 ghost use Rattle.sharing.specs.Sharing.{shared};
 ghost use Rattle.allocation.specs.Allocation.{eightPlaces};
 ghost use Rattle.spacing.specs.Spacing.{spacingOf};
@@ -15,7 +15,7 @@ ghost use Rattle.work.specs.Joint.{rowsOf, leversOf, limitOf, steelOf, g
 ghost use Rattle.work.specs.Work.{refusedBy, resultOf, fromThickness, fromLevers, worked};
 ghost use Rattle.work.specs.Demand.{Demand3};
 use arithmetic::least;
-use compression::CompressionCheck;
+use governing::CompressionCheck;
 use joint::FieldCheck;
 use joint::Joint;
 use outcome::Outcome;
@@ -92,7 +92,7 @@ fn work_thickness(joint: Joint, spacing: Spacing) -> Outcome
         return refused(14, 0);
     }
     let check = compression::governing(steel, column, face.beam, face.plate, face.welds);
-    let capped = refusals::tension_cap(compression::force_of(check), face.loads);
+    let capped = refusals::tension_cap(governing::force_of(check), face.loads);
     let Cap::Newtons(cap) = capped else {
         return refused(15, 0);
     };
@@ -109,7 +109,7 @@ fn row_forces(
 ) -> [u64; 8]
     requires { ⌜ Admissible joint ⌝ }
     requires { ⌜ Measured joint spacing steel pair ⌝ }
-    ensures { λ r. ⌜ r ≡ eightPlaces (shared (joined (limitOf joint) (rowsOf joint) cap) (rowsOf joint)) ⌝ }
+    ensures { λ r. ⌜ r ≡ eightPlaces (shared (withCap (limitOf joint) (rowsOf joint) cap) (rowsOf joint)) ⌝ }
     ensures { λ r. ⌜ ((k : ℕ) → getD r k 0 ≤ 4000000000) ⌝ }
 {
     let rows = joint.face.rows as usize;

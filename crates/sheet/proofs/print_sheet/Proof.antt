@@ -1,8 +1,8 @@
 -- `print_sheet` meets its contract: the sheet was printed whole, and the case that there is no room for it never comes. Assumes nothing.
 use mathlib.Core.Path.{sym, ap, _∙_}
 use denote.Ref.{now}
-use Rattle.sheets.specs.declared.Printed.{Printed}
-use Rattle.sheets.specs.Sheet.{printedTold}
+use Rattle.printer.specs.declared.Printed.{Printed}
+use Rattle.printer.specs.Sheet.{printedTold}
 use Rattle.sheet.proofs.Room.{whole-told, cut-never}
 use borrow.Author.Needs.{needs}
 use Rattle.sheet.proofs.print_sheet.Statement.{statement}

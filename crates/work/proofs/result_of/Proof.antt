@@ -2,7 +2,7 @@
 use mathlib.Core.Path.{_≡_, ap, _∙_}
 use Prim.Native.Nat.{_/_}
 use lib.ListN.{take}
-use Rattle.sharing.specs.Groups.{joined}
+use Rattle.sharing.specs.Groups.{withCap}
 use Rattle.sharing.specs.Sharing.{shared, newtonMetres}
 use Rattle.allocation.specs.Allocation.{eightPlaces}
 use Rattle.joint.proofs.InRange.{lever-most}
@@ -20,7 +20,7 @@ unfolding forcesOf
 own c =
     let s = c .before .before .before in
     let j = s .args .joint in
-    c .row-forces .ensures .0 ∙ ap (λ cap. eightPlaces (shared (joined (limitOf j) (rowsOf j) cap) (rowsOf j))) (s .pre .1 .1 .2)
+    c .row-forces .ensures .0 ∙ ap (λ cap. eightPlaces (shared (withCap (limitOf j) (rowsOf j) cap) (rowsOf j))) (s .pre .1 .1 .2)
 
 -- and the tally is theirs
 counted : (c : tie.After-tally-forces)
@@ -30,7 +30,7 @@ counted c =
     let j = c .before .before .before .before .before .args .joint in
     c .tally-forces .ensures .0
     ∙ ap (λ forces. tallyOf (leversOf j) (take (rowsOf j) forces)) (own (c .before .before))
-    ∙ ap (tallyOf (leversOf j)) (rows-kept (rowsOf j) (joined (limitOf j) (rowsOf j) (capOf j)))
+    ∙ ap (tallyOf (leversOf j)) (rows-kept (rowsOf j) (withCap (limitOf j) (rowsOf j) (capOf j)))
 
 row-forces-requires : tie.Need-row-forces-requires
 row-forces-requires c κs = search needs

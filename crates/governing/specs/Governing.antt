@@ -1,0 +1,28 @@
+-- Document 01, 'Compression and the tension cap': 'The first least of these four governs, and the result names which kind of compression
+-- check it is, with its force.' Assumes nothing.
+use Prim.Native.Nat.{ℕ}
+use mathlib.Core.Bool.{cond}
+use mathlib.Core.List.{List, [], _∷_}
+use lib.Dec.{leb}
+use Rattle.compression.specs.declared.Resistances.{Resistances}
+use Rattle.governing.specs.declared.CompressionCheck.{CompressionCheck}
+use Rattle.governing.specs.declared.CompressionCheck.the-variants.{Flange, Bearing, Buckling, Panel}
+
+abbrev pub forceOf : CompressionCheck → ℕ
+forceOf (Flange force) = force
+forceOf (Bearing force) = force
+forceOf (Buckling force) = force
+forceOf (Panel force) = force
+
+-- of two checks the one with the smaller force, the first where they are equal
+unfoldable pub lesser : CompressionCheck → CompressionCheck → CompressionCheck
+lesser first second = cond (leb (forceOf first) (forceOf second)) first second
+
+abbrev pub firstLeast : CompressionCheck → List CompressionCheck → CompressionCheck
+firstLeast found [] = found
+firstLeast found (check ∷ checks) = firstLeast (lesser found check) checks
+
+unfoldable pub governingCheck : Resistances → CompressionCheck
+governingCheck resistances =
+    firstLeast (Flange (resistances .flange))
+    (Bearing (resistances .bearing) ∷ Buckling (resistances .buckling) ∷ Panel (resistances .panel) ∷ [])

@@ -1,0 +1,101 @@
+-- How long a sheet can be: a file has at least 30 bytes, so there are at most 2184 joints and the line of one refusal, each line of at
+-- most 283 bytes. So 618355 bytes hold any sheet. Assumes nothing.
+use Prim.Native.Nat.{ℕ, zero, suc, _+_, _*_, _≤_}
+use mathlib.Core.Path.{_≡_, refl}
+use mathlib.Core.List.{List, [], _∷_, _++_}
+use mathlib.Core.Bool.{Bool, true, false, cond, and-eq-true-iff}
+use native.Mathlib.Omega.{arith}
+use borrow.Author.Tests.{leb-true, ltb-false, le-leb}
+use lib.Dec.{leb, ltb}
+use lib.ListN.{length, take, length-append, length-take}
+use Rattle.arithmetic.specs.Range.{within}
+use Rattle.joint.specs.Ranges.{rowCounts}
+use Rattle.joint.specs.declared.Joint.{Joint}
+use Rattle.numbers.specs.Parse.{Parse, got, refused}
+use Rattle.numbers.specs.Number.{Bytes}
+use Rattle.fields.specs.Fields.{fieldsOf}
+use Rattle.jointfile.specs.File.{readJoint}
+use Rattle.numbers.specs.Run.{storedAll}
+use Rattle.jointfile.specs.Write.{fileOf, file}
+use Rattle.numbers.proofs.Sizes.{groups-positive}
+use Rattle.jointfile.proofs.RoundTrip.{writes-again}
+use Rattle.items.specs.Digits.{digits}
+use Rattle.items.specs.Items.{spaced}
+use Rattle.line.proofs.Lines.{refusal-short, outcome-short}
+use Rattle.work.specs.Work.{worked}
+use Rattle.printer.specs.Sheet.{lineThen, linesWithin, linesOf, overLong, sheetLines, concatenated, sheetOf, whole, printing}
+use Rattle.buffers.specs.Put.{atFront}
+use Rattle.printer.proofs.Walk.{bytes-left}
+
+storedAll-long : (xs : List ℕ) → length xs ≤ length (storedAll xs)
+unfolding storedAll
+storedAll-long [] = omega arith
+storedAll-long (x ∷ xs) = rw length-append (omega (arith, groups-positive 4 x, storedAll-long xs))
+
+some-row : (rows : ℕ) → within rowCounts rows ≡ true → 1 ≤ rows
+some-row rows count = leb-true 1 rows (and-eq-true-iff (leb 1 rows) (leb rows 8) .0 count .0)
+
+-- 29 fields and a lever take a byte each, or more
+pub file-size : (bytes : List ℕ) (joint : Joint) (left : List ℕ) → Bytes bytes → readJoint bytes ≡ got joint left → length left + 30 ≤ length bytes
+unfolding fileOf fieldsOf
+file-size bytes joint left all e =
+    let took = writes-again bytes joint left all e in
+    let rows = joint .face .rows in
+    let levers = joint .face .levers in
+    rw (← took .form, length-append (file joint) left)
+    (omega (
+      arith,
+      storedAll-long (fieldsOf joint ++ take rows levers),
+      length-append (fieldsOf joint) (take rows levers),
+      length-take rows levers,
+      took .held .eight,
+      some-row rows (took .writable .rows),
+    ))
+
+lines-few : (most number : ℕ) (bytes : List ℕ) → Bytes bytes → 30 * length (linesWithin most number bytes) ≤ length bytes + 29
+unfolding linesWithin
+lines-few zero number bytes all = omega arith
+lines-few (suc most) number [] all = omega arith
+lines-few (suc most) number (byte ∷ bytes) all = go (lines-few most (number + 1)) (readJoint (byte ∷ bytes)) refl
+  where
+    go : ((left : List ℕ) → Bytes left → 30 * length (linesWithin most (number + 1) left) ≤ length left + 29)
+        → (outcome : Parse Joint) → readJoint (byte ∷ bytes) ≡ outcome
+        → 30 * length (lineThen (linesWithin most (number + 1)) number outcome) ≤ length (byte ∷ bytes) + 29
+    go few (got joint left) e =
+        omega (arith, few left (bytes-left (byte ∷ bytes) joint left all e), file-size (byte ∷ bytes) joint left all e)
+    go few (refused r) e = omega arith
+
+lines-short : (most number : ℕ) (bytes : List ℕ)
+    → length (concatenated (linesWithin most number bytes)) ≤ 283 * length (linesWithin most number bytes)
+unfolding linesWithin concatenated
+lines-short zero number bytes = omega arith
+lines-short (suc most) number [] = omega arith
+lines-short (suc most) number (byte ∷ bytes) = go (lines-short most (number + 1)) (readJoint (byte ∷ bytes))
+  where
+    go : ((left : List ℕ) → length (concatenated (linesWithin most (number + 1) left)) ≤ 283 * length (linesWithin most (number + 1) left))
+        → (outcome : Parse Joint)
+        → length (concatenated (lineThen (linesWithin most (number + 1)) number outcome)) ≤ 283 * length (lineThen (linesWithin most (number + 1)) number outcome)
+    go short (got joint left) =
+        rw length-append (omega (arith, short left, outcome-short number (joint .face .rows) (worked joint)))
+    go short (refused r) = rw length-append (omega (arith, refusal-short number (r ∷ []) (omega arith)))
+
+over-long-size : length (concatenated (overLong ∷ [])) ≡ 4
+unfolding concatenated spaced digits
+over-long-size = refl
+
+-- 618355 bytes hold any sheet.
+pub sheet-size : (bytes : List ℕ) → Bytes bytes → length (sheetOf bytes) ≤ 618355
+unfolding sheetLines
+sheet-size bytes all = go (ltb 65536 (length bytes)) refl
+  where
+    go : (t : Bool) → ltb 65536 (length bytes) ≡ t → length (concatenated (cond t (overLong ∷ []) (linesOf 1 bytes))) ≤ 618355
+    go true e = omega (arith, over-long-size)
+    go false e =
+        omega (arith, lines-short (length bytes) 1 bytes, lines-few (length bytes) 1 bytes all, ltb-false 65536 (length bytes) e)
+
+-- So a buffer of that many bytes never runs out: the whole sheet stands at its front.
+pub sheet-whole : (bytes buffer : List ℕ) → Bytes bytes → 618355 ≤ length buffer
+    → printing (sheetLines bytes) buffer ≡ whole (length (sheetOf bytes)) (atFront (sheetOf bytes) buffer)
+unfolding printing
+sheet-whole bytes buffer all room =
+    rw (le-leb (length (sheetOf bytes)) (length buffer) (omega (arith, sheet-size bytes all)))

@@ -1,0 +1,110 @@
+-- Walking the input: the lines of bytes that aren't all read are the line of what `read` answers of them, and the lines from the place
+-- after it on. The bound on the count of lines never tells, since each joint takes bytes. Assumes nothing.
+use Prim.Native.Nat.{ℕ, zero, suc, _+_, _≤_, _<_}
+use mathlib.Core.Path.{_≡_, refl, ap, _∙_, subst}
+use mathlib.Core.List.{List, [], _∷_}
+use mathlib.Core.Bool.{Bool, true, false}
+use native.Mathlib.Omega.{arith}
+use borrow.Author.Tests.{eqb-true, eqb-false, eq-eqb, ne-eqb, lt-ltb, le-ltb}
+use lib.Dec.{eqb}
+use lib.ListN.{length, drop}
+use lib.Seq.{getD-drop}
+use Rattle.joint.specs.declared.Joint.{Joint}
+use Rattle.numbers.specs.Parse.{Parse, got, refused}
+use Rattle.numbers.specs.Number.{Bytes}
+use Rattle.jointfile.specs.File.{readJoint, answer, reading, leftOf, restOf}
+use Rattle.jointfile.specs.declared.Reading.{Reading}
+use Rattle.jointfile.proofs.Places.{next-left, left-shorter, read-taken, read-refused}
+use Rattle.line.specs.Line.{refusalLine}
+use Rattle.printer.specs.Sheet.{Line, jointLine, lineThen, linesWithin, linesOf, overLong, sheetLines, readingLine}
+
+pub bytes-drop : (bytes : List ℕ) (k : ℕ) → Bytes bytes → Bytes (drop k bytes)
+bytes-drop bytes k all i = rw (getD-drop k bytes i 0) (all (k + i))
+
+pub bytes-left : (bytes : List ℕ) (joint : Joint) (left : List ℕ) → Bytes bytes → readJoint bytes ≡ got joint left → Bytes left
+bytes-left bytes joint left all e = subst Bytes (next-left bytes all ∙ ap leftOf e) (bytes-drop bytes (reading bytes .next) all)
+
+-- any bound that the count of bytes keeps gives the same lines
+lines-same : (most most′ number : ℕ) (bytes : List ℕ) → Bytes bytes → length bytes ≤ most → length bytes ≤ most′
+    → linesWithin most number bytes ≡ linesWithin most′ number bytes
+unfolding linesWithin
+lines-same zero zero number [] all h h′ = refl
+lines-same zero (suc most′) number [] all h h′ = refl
+lines-same (suc most) zero number [] all h h′ = refl
+lines-same (suc most) (suc most′) number [] all h h′ = refl
+lines-same zero most′ number (byte ∷ bytes) all h h′ = absurd (omega arith)
+lines-same (suc most) zero number (byte ∷ bytes) all h h′ = absurd (omega arith)
+lines-same (suc most) (suc most′) number (byte ∷ bytes) all h h′ =
+    go (lines-same most most′ (number + 1)) (readJoint (byte ∷ bytes)) refl
+  where
+    go : ((left : List ℕ) → Bytes left → length left ≤ most → length left ≤ most′
+        → linesWithin most (number + 1) left ≡ linesWithin most′ (number + 1) left)
+        → (outcome : Parse Joint) → readJoint (byte ∷ bytes) ≡ outcome
+        → lineThen (linesWithin most (number + 1)) number outcome ≡ lineThen (linesWithin most′ (number + 1)) number outcome
+    go same (got joint left) e =
+        let shorter = left-shorter (byte ∷ bytes) joint left all e in
+        ap (λ (lines : List Line). jointLine number joint ∷ lines)
+        (same left (bytes-left (byte ∷ bytes) joint left all e) (omega arith) (omega arith))
+    go same (refused r) e = refl
+
+pub lines-none : (number : ℕ) → linesOf number [] ≡ []
+unfolding linesWithin
+lines-none number = refl
+
+pub lines-next : (number : ℕ) (bytes : List ℕ) → Bytes bytes → 0 < length bytes
+    → linesOf number bytes ≡ readingLine number (reading bytes) ∷ linesOf (number + 1) (drop (reading bytes .next) bytes)
+unfolding linesWithin readingLine
+lines-next number [] all some = absurd (omega arith)
+lines-next number (byte ∷ bytes) all some = go (eqb (reading input .refusal) 0) refl
+  where
+    input : List ℕ
+    input = byte ∷ bytes
+
+    others : List ℕ → List Line
+    others = linesWithin (length bytes) (number + 1)
+
+    go : (t : Bool) → eqb (reading input .refusal) 0 ≡ t
+        → lineThen others number (readJoint input)
+        ≡ readingLine number (reading input) ∷ linesOf (number + 1) (drop (reading input .next) input)
+    go true e =
+        let taken = read-taken input (eqb-true (reading input .refusal) 0 e) in
+        let joint = reading input .joint in
+        let left = restOf input in
+        let shorter = left-shorter input joint left all taken in
+        ap (lineThen others number) taken
+        ∙ rw (next-left input all, e)
+        (ap (λ (lines : List Line). jointLine number joint ∷ lines)
+        (lines-same (length bytes) (length left) (number + 1) left (bytes-left input joint left all taken) (omega arith) (omega arith)))
+    go false e =
+        let turned = read-refused input (eqb-false (reading input .refusal) 0 e) in
+        let none : drop (reading input .next) input ≡ [] = next-left input all ∙ ap leftOf turned in
+        ap (lineThen others number) turned ∙ rw (none, e)
+
+-- a place after what was read
+pub next-positive : (bytes : List ℕ) → Bytes bytes → 0 < length bytes → 0 < reading bytes .next
+next-positive bytes all some = go (readJoint bytes) refl
+  where
+    go : (outcome : Parse Joint) → readJoint bytes ≡ outcome → 0 < answer (length bytes) outcome .next
+    go (got joint left) e = let shorter = left-shorter bytes joint left all e in omega arith
+    go (refused r) e = some
+
+-- ---- the line of what was read, case by case
+
+module _ (number : ℕ) (answer : Reading) where
+  pub reading-joint : answer .refusal ≡ 0 → jointLine number (answer .joint) ≡ readingLine number answer
+  unfolding readingLine
+  reading-joint none = rw (eq-eqb (answer .refusal) 0 none)
+
+  pub reading-refused : (answer .refusal ≡ 0 → ⊥) → refusalLine number (answer .refusal ∷ []) ≡ readingLine number answer
+  unfolding readingLine
+  reading-refused some = rw (ne-eqb (answer .refusal) 0 some)
+
+-- ---- the sheet, case by case
+
+pub sheet-over-long : (bytes : List ℕ) → 65536 < length bytes → sheetLines bytes ≡ overLong ∷ []
+unfolding sheetLines
+sheet-over-long bytes long = rw (lt-ltb 65536 (length bytes) long)
+
+pub sheet-joints : (bytes : List ℕ) → length bytes ≤ 65536 → sheetLines bytes ≡ linesOf 1 bytes
+unfolding sheetLines
+sheet-joints bytes short = rw (le-ltb 65536 (length bytes) short)
