@@ -1,3 +1,4 @@
+pub mod Checks
 pub mod Bounds
 pub mod Table
 pub mod Greatest
