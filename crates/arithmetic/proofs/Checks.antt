@@ -22,3 +22,24 @@ module _ {A : Type 0} (passed : A) (failed : ℕ → A) where
   unfolding firstFailing
   one-after-another [] second = refl
   one-after-another (check ∷ first) second = ap (λ rest. cond (check .1) rest (failed (check .0))) (one-after-another first second)
+
+  -- an answer that isn't the failure of the first check: the check holds, and the others decide
+  pub held : (number : ℕ) (test : Bool) (checks : List Check) (answer : A)
+      → firstFailing passed failed ((number, test) ∷ checks) ≡ answer → (failed number ≡ answer → ⊥)
+      → (test ≡ true) × (firstFailing passed failed checks ≡ answer)
+  unfolding firstFailing
+  held number true checks answer e other = (refl, e)
+  held number false checks answer e other = absurd (other e)
+
+-- what is made of the answer is made of each case
+pub of-each : {A B : Type 0} (f : A → B) (passed : A) (failed : ℕ → A) (checks : List Check)
+    → f (firstFailing passed failed checks) ≡ firstFailing (f passed) (λ number. f (failed number)) checks
+unfolding firstFailing
+of-each f passed failed [] = refl
+of-each f passed failed (check ∷ checks) = by-test (check .1) (of-each f passed failed checks)
+  where
+    by-test : (test : Bool) → f (firstFailing passed failed checks) ≡ firstFailing (f passed) (λ number. f (failed number)) checks
+        → f (cond test (firstFailing passed failed checks) (failed (check .0)))
+        ≡ cond test (firstFailing (f passed) (λ number. f (failed number)) checks) (f (failed (check .0)))
+    by-test true rest = rest
+    by-test false rest = refl
