@@ -10,13 +10,14 @@ use Rattle.arithmetic.specs.Range.{within}
 use Rattle.arithmetic.proofs.Bounds.{within-either}
 use borrow.Author.Needs.{needs}
 use Rattle.joint.specs.Ranges.{levers}
-use Rattle.joint.specs.Fields.{firstOutside, leverFields}
-use Rattle.joint.proofs.Fields.{from-start, stops, goes-on, next-lever, no-lever}
+use Rattle.joint.specs.Fields.{leverChecks}
+use Rattle.joint.specs.Steps.{foundBy}
+use Rattle.joint.proofs.Fields.{nothing-asked, part-stops, part-holds, next-lever, no-lever}
 use Rattle.joint.proofs.check_levers.Statement.{statement}
 use Rattle.joint.proofs.check_levers.Tie as tie
 
 abbrev Inv-loop : tie.InvT-loop
-Inv-loop rows hs row₀ row = (row ≤ 8) × (firstOutside (leverFields rows row (drop row hs)) ≡ firstOutside (leverFields rows 0 hs))
+Inv-loop rows hs row₀ row = (row ≤ 8) × (foundBy (leverChecks rows row (drop row hs)) ≡ foundBy (leverChecks rows 0 hs))
 
 abbrev μ-loop : tie.MeasureT-loop
 μ-loop rows hs row₀ row = 8 - row
@@ -53,21 +54,23 @@ enum-told-2 c = search needs
 
 -- what a turn finds of its lever
 found : (c : tie.After-ranged Inv-loop μ-loop) → let at-loop = c .before .before .before .before in let a = at-loop .before .args in
-    c .ranged .result ≡ firstOutside ((30 + at-loop .loop .row, within (levers (a .rows) (at-loop .loop .row)) (getD (a .t2) (at-loop .loop .row) 0)) ∷ [])
-found c = rw (c .ranged .ensures, c .before .chosen2 .ensures, c .before .before .chosen .ensures) (simp (within-either, from-start))
+    c .ranged .result ≡ foundBy ((30 + at-loop .loop .row, within (levers (a .rows) (at-loop .loop .row)) (getD (a .t2) (at-loop .loop .row) 0)) ∷ [])
+found c =
+    let at-loop = c .before .before .before .before in
+    rw (c .before .chosen2 .ensures, c .before .before .chosen .ensures, within-either) at (c .ranged .ensures [] nothing-asked)
 
 -- the levers that are left, of which the turn's is the first
 left : (c : tie.After-ranged Inv-loop μ-loop) → let at-loop = c .before .before .before .before in let a = at-loop .before .args in
-    firstOutside (((30 + at-loop .loop .row, within (levers (a .rows) (at-loop .loop .row)) (getD (a .t2) (at-loop .loop .row) 0)) ∷ [])
-    ++ leverFields (a .rows) (at-loop .loop .row + 1) (drop (at-loop .loop .row + 1) (a .t2))) ≡ firstOutside (leverFields (a .rows) 0 (a .t2))
+    foundBy (((30 + at-loop .loop .row, within (levers (a .rows) (at-loop .loop .row)) (getD (a .t2) (at-loop .loop .row) 0)) ∷ [])
+    ++ leverChecks (a .rows) (at-loop .loop .row + 1) (drop (at-loop .loop .row + 1) (a .t2))) ≡ foundBy (leverChecks (a .rows) 0 (a .t2))
 left c =
     let at-loop = c .before .before .before .before in
     let a = at-loop .before .args in
     let in-array : at-loop .loop .row < length (a .t2) = omega arith in
-    ap firstOutside (sym (next-lever (a .rows) (at-loop .loop .row) (a .t2) in-array)) ∙ at-loop .loop .inv .1
+    ap foundBy (sym (next-lever (a .rows) (at-loop .loop .row) (a .t2) in-array)) ∙ at-loop .loop .inv .1
 
 returns : tie.Need-returns Inv-loop μ-loop
-returns c = stops _ _ (found (c .before .before)) (c .enum-told2 .given .1) ∙ left (c .before .before)
+returns c = part-stops _ _ (found (c .before .before)) (c .enum-told2 .given .1) ∙ left (c .before .before)
 
 add-row : tie.Need-add-row Inv-loop μ-loop
 add-row c = omega arith
@@ -76,7 +79,7 @@ loop-less : tie.Need-loop-less Inv-loop μ-loop
 loop-less c = omega arith
 
 loop-again : tie.Need-loop-again Inv-loop μ-loop
-loop-again c = (omega arith, goes-on _ _ (found (c .before .before)) (c .enum-told .given .1) refl ∙ left (c .before .before))
+loop-again c = (omega arith, part-holds _ _ (found (c .before .before)) (c .enum-told .given .1) refl ∙ left (c .before .before))
 
 returns-2 : tie.Need-returns-2 Inv-loop μ-loop
 returns-2 c =
