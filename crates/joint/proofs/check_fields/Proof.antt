@@ -9,7 +9,8 @@ use Rattle.joint.specs.declared.Column.{Column}
 use Rattle.joint.specs.declared.Bolts.{Bolts}
 use Rattle.joint.specs.declared.Face.{Face}
 use Rattle.joint.specs.declared.FieldCheck.{FieldCheck}
-use Rattle.joint.proofs.Fields.{part-stops, part-holds, from-head, from-grades, from-column, from-beam, from-plate, from-welds, from-loads, from-levers}
+use Rattle.joint.proofs.Fields.{part-stops, part-holds, from-head, from-grades, from-column, from-beam, from-plate}
+use Rattle.joint.proofs.Fields.{from-welds, from-loads, from-levers}
 use Rattle.joint.proofs.check_fields.Statement.{statement}
 use Rattle.joint.proofs.check_fields.Tie as tie
 
@@ -17,53 +18,63 @@ use Rattle.joint.proofs.check_fields.Tie as tie
 abbrev of : {A : Type 0} → (Column → Bolts → Face → A) → tie.Start → A
 of f s = f (s .args .column) (s .args .bolts) (s .args .face)
 
+abbrev start : tie.After-check-head → tie.Start
+start c = c .before .before
+
 -- ---- after each part that passes: where the call started, and that what the parts after it answer is the answer for all
 
 abbrev start-head : tie.After-enum-told → tie.Start
-start-head c = c .before .before .before .before
+start-head c = start (c .before .before)
 
-after-head : (c : tie.After-enum-told) {answer : FieldCheck} → answer ≡ foundBy (of from-grades (start-head c)) → answer ≡ of fieldCheck (start-head c)
+after-head : (c : tie.After-enum-told) {answer : FieldCheck}
+    → answer ≡ foundBy (of from-grades (start-head c)) → answer ≡ of fieldCheck (start-head c)
 after-head c rest = part-holds _ _ (c .before .before .check-head .ensures) (c .enum-told .given .1) rest ∙ from-head _ _ _
 
 abbrev start-grades : tie.After-enum-told3 → tie.Start
 start-grades c = start-head (c .before .before .before)
 
-after-grades : (c : tie.After-enum-told3) {answer : FieldCheck} → answer ≡ foundBy (of from-column (start-grades c)) → answer ≡ of fieldCheck (start-grades c)
+after-grades : (c : tie.After-enum-told3) {answer : FieldCheck}
+    → answer ≡ foundBy (of from-column (start-grades c)) → answer ≡ of fieldCheck (start-grades c)
 after-grades c rest =
     after-head (c .before .before .before) (part-holds _ _ (c .before .before .check-grades .ensures) (c .enum-told3 .given .1) rest)
 
 abbrev start-column : tie.After-enum-told5 → tie.Start
 start-column c = start-grades (c .before .before .before)
 
-after-column : (c : tie.After-enum-told5) {answer : FieldCheck} → answer ≡ foundBy (of from-beam (start-column c)) → answer ≡ of fieldCheck (start-column c)
+after-column : (c : tie.After-enum-told5) {answer : FieldCheck}
+    → answer ≡ foundBy (of from-beam (start-column c)) → answer ≡ of fieldCheck (start-column c)
 after-column c rest =
     after-grades (c .before .before .before) (part-holds _ _ (c .before .before .check-column .ensures) (c .enum-told5 .given .1) rest)
 
 abbrev start-beam : tie.After-enum-told7 → tie.Start
 start-beam c = start-column (c .before .before .before)
 
-after-beam : (c : tie.After-enum-told7) {answer : FieldCheck} → answer ≡ foundBy (of from-plate (start-beam c)) → answer ≡ of fieldCheck (start-beam c)
+after-beam : (c : tie.After-enum-told7) {answer : FieldCheck}
+    → answer ≡ foundBy (of from-plate (start-beam c)) → answer ≡ of fieldCheck (start-beam c)
 after-beam c rest =
     after-column (c .before .before .before) (part-holds _ _ (c .before .before .check-beam .ensures) (c .enum-told7 .given .1) rest)
 
 abbrev start-plate : tie.After-enum-told9 → tie.Start
 start-plate c = start-beam (c .before .before .before)
 
-after-plate : (c : tie.After-enum-told9) {answer : FieldCheck} → answer ≡ foundBy (of from-welds (start-plate c)) → answer ≡ of fieldCheck (start-plate c)
+after-plate : (c : tie.After-enum-told9) {answer : FieldCheck}
+    → answer ≡ foundBy (of from-welds (start-plate c)) → answer ≡ of fieldCheck (start-plate c)
 after-plate c rest =
     after-beam (c .before .before .before) (part-holds _ _ (c .before .before .check-plate .ensures) (c .enum-told9 .given .1) rest)
 
 abbrev start-welds : tie.After-enum-told11 → tie.Start
 start-welds c = start-plate (c .before .before .before)
 
-after-welds : (c : tie.After-enum-told11) {answer : FieldCheck} → answer ≡ foundBy (of from-loads (start-welds c)) → answer ≡ of fieldCheck (start-welds c)
+after-welds : (c : tie.After-enum-told11) {answer : FieldCheck}
+    → answer ≡ foundBy (of from-loads (start-welds c)) → answer ≡ of fieldCheck (start-welds c)
 after-welds c rest =
     after-plate (c .before .before .before) (part-holds _ _ (c .before .before .check-welds .ensures) (c .enum-told11 .given .1) rest)
 
 abbrev start-loads : tie.After-enum-told13 → tie.Start
 start-loads c = start-welds (c .before .before .before)
 
-after-loads : (c : tie.After-enum-told13) {answer : FieldCheck} → answer ≡ foundBy (of from-levers (start-loads c)) → answer ≡ of fieldCheck (start-loads c)
+after-loads : (c : tie.After-enum-told13) {answer : FieldCheck}
+    → answer ≡ foundBy (of from-levers (start-loads c)) → answer ≡ of fieldCheck (start-loads c)
 after-loads c rest =
     after-welds (c .before .before .before) (part-holds _ _ (c .before .before .check-loads .ensures) (c .enum-told13 .given .1) rest)
 
@@ -80,7 +91,7 @@ enum-told-2 c = search needs
 
 returns : tie.Need-returns
 returns c =
-    let s = c .before .before .before .before in
+    let s = start (c .before .before) in
     part-stops _ (of from-grades s) (c .before .before .check-head .ensures) (c .enum-told2 .given .1) ∙ from-head _ _ _
 
 check-grades-requires : tie.Need-check-grades-requires

@@ -1,4 +1,5 @@
--- `joint::check_loads` meets its contract: the answers of its three calls join up. The axial force reaches the call as its bits and is read back.
+-- `joint::check_loads` meets its contract: the answers of its three calls join up. The axial force reaches the call as its bits and is
+-- read back.
 -- Assumes nothing.
 use borrow.Author.Needs.{needs}
 use mathlib.Core.List.{[]}
