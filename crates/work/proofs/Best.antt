@@ -11,6 +11,7 @@ use lib.Seq.{length-take-le, getD-take}
 use lib.Dec.{leb→le, le→leb}
 use lib.IntN.{pos}
 use borrow.Author.Tests.{not-true}
+use Rattle.arithmetic.proofs.Checks.{none-left}
 use Rattle.joint.specs.Fields.{fieldCheck}
 use Rattle.joint.specs.declared.Joint.{Joint}
 use Rattle.joint.specs.declared.Column.{Column}
@@ -112,7 +113,7 @@ of-face column bolts face r eight answer e none =
     let p14 = passes 13 _ _ _ answer (p13 .1) none in
     let p15 = passes 14 _ _ _ answer (p14 .1) none in
     let a = admissible (record { column = column; bolts = bolts; face = face }) r eight (p11 .0) (not-true _ (p13 .0)) in
-    rw (sym (p15 .1)) (demand column bolts face a eight (cap-newtons _ _ (not-true _ (p15 .0))))
+    rw (sym (p15 .1) ∙ none-left _ _) (demand column bolts face a eight (cap-newtons _ _ (not-true _ (p15 .0))))
 
 -- Demand 3: for every joint whose answer is no refusal. A joint in the machine has eight levers.
 pub worked-demand : (joint : Joint) → length (joint .face .levers) ≡ 8 → (answer : Outcome) → worked joint ≡ answer

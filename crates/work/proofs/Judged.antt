@@ -12,7 +12,7 @@ use Rattle.joint.specs.declared.Bolts.{Bolts}
 use Rattle.joint.specs.declared.Face.{Face}
 use Rattle.sharing.specs.Groups.{total, withCap}
 use Rattle.sharing.proofs.Theorems.{best}
-use Rattle.allocation.specs.Allocation.{eightPlaces}
+use Rattle.joint.specs.Places.{eightPlaces}
 use Rattle.verdicts.specs.Tally.{pullingRows}
 use Rattle.verdicts.specs.Bolts.{idlePair, pullingPair, boltsPass}
 use Rattle.verdicts.specs.Welds.{topRows}

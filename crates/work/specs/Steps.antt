@@ -7,7 +7,7 @@ use Rattle.joint.specs.declared.Joint.{Joint}
 use Rattle.joint.specs.declared.Column.{Column}
 use Rattle.joint.specs.declared.Bolts.{Bolts}
 use Rattle.joint.specs.declared.Face.{Face}
-use Rattle.allocation.specs.Allocation.{eightPlaces}
+use Rattle.joint.specs.Places.{eightPlaces}
 use Rattle.strength.specs.Bolt.{boltStrengths}
 use Rattle.spacing.specs.Spacing.{spacingOf}
 use Rattle.tension.specs.Admissible.{Admissible}
@@ -45,6 +45,6 @@ pub record Capped (column : Column) (bolts : Bolts) (face : Face) (measures : Me
 -- A face's forces in their eight places, none so large that a sum could not be held, and what they come to.
 pub record Tallied (column : Column) (bolts : Bolts) (face : Face) (forces : List ℕ) (tally : Tally) : Type 0 where
   pub places : forces ≡ eightPlaces (forcesOf column bolts face)
-  pub bounded : (k : ℕ) → getD forces k 0 ≤ 4000000000
+  pub bounded : (k : ℕ) → getD forces k 0 ≤ mostLimit
   pub tallied : tally ≡ tallyOf (leversOf face) (forcesOf column bolts face)
   pub moment : tally .moment ≤ 1000000000000000

@@ -13,7 +13,7 @@ use Rattle.joint.specs.declared.FieldCheck.{FieldCheck}
 use Rattle.joint.specs.declared.FieldCheck.the-variants.{AllInRange, Outside}
 use Rattle.sharing.specs.Groups.{total}
 use Rattle.sharing.specs.Sharing.{newtonMetres}
-use Rattle.allocation.specs.Allocation.{eightPlaces}
+use Rattle.joint.specs.Places.{eightPlaces}
 use Rattle.strength.specs.Bolt.{boltStrengths}
 use Rattle.strength.specs.Thickness.{bothTooThick}
 use Rattle.spacing.specs.Spacing.{spacingOf}

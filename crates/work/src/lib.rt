@@ -9,7 +9,7 @@ ghost use Rattle.compression.specs.Compression.{PartsInRange, mostBearing};
 ghost use Rattle.governing.specs.Governing.{forceOf};
 ghost use Rattle.sharing.specs.Groups.{withCap};
 ghost use Rattle.sharing.specs.Sharing.{shared};
-ghost use Rattle.allocation.specs.Allocation.{eightPlaces};
+ghost use Rattle.joint.specs.Places.{eightPlaces};
 ghost use Rattle.work.specs.OneFace.{rowsOf, limitOf, steelOf, governingOf, forcesOf, verdictsOf};
 ghost use Rattle.work.specs.Work.{refusedBy, refusals, resultOf, completed, workedFace, worked};
 ghost use Rattle.work.specs.Demand.{Demand3};
@@ -187,7 +187,7 @@ fn result_of(
 fn row_forces(column: Column, bolts: Bolts, face: Face, measures: Measures, cap: u64) -> [u64; 8]
     requires { ⌜ Measured column bolts face measures ⌝ }
     ensures { λ r. ⌜ r ≡ eightPlaces (shared (withCap (limitOf column bolts face) (rowsOf face) cap) (rowsOf face)) ⌝ }
-    ensures { λ r. ⌜ ((k : ℕ) → getD r k 0 ≤ 4000000000) ⌝ }
+    ensures { λ r. ⌜ ((k : ℕ) → getD r k 0 ≤ mostLimit) ⌝ }
 {
     let rows = face.rows as usize;
     let whole = rows - 1;

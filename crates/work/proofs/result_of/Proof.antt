@@ -4,7 +4,7 @@ use Prim.Native.Nat.{_/_}
 use lib.ListN.{take}
 use Rattle.sharing.specs.Groups.{withCap}
 use Rattle.sharing.specs.Sharing.{shared, newtonMetres}
-use Rattle.allocation.specs.Allocation.{eightPlaces}
+use Rattle.joint.specs.Places.{eightPlaces}
 use Rattle.joint.proofs.InRange.{lever-most}
 use Rattle.verdicts.specs.Tally.{tallyOf}
 use Rattle.governing.specs.Cap.{newtonsOf}

@@ -1,6 +1,6 @@
 -- `row_forces` meets its contract: the cap is stored on group 1 to n, and the table shares alike (the laws of `Forces`). Assumes nothing.
 use mathlib.Core.Path.{ap, _∙_}
-use Rattle.allocation.specs.Allocation.{eightPlaces}
+use Rattle.joint.specs.Places.{eightPlaces}
 use Rattle.work.proofs.Forces.{forces-agree, shareable, force-small}
 use borrow.Author.Needs.{needs}
 use Rattle.work.proofs.row_forces.Statement.{statement}
