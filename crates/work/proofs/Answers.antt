@@ -12,8 +12,9 @@ use lib.Signed.{ltZ}
 use borrow.Author.Tests.{ltb-false, eq-eqb, not-true}
 use Rattle.arithmetic.specs.Checks.{Check, firstFailing}
 use Rattle.arithmetic.proofs.Checks.{held}
-use Rattle.joint.specs.InRange.{InRange}
-use Rattle.joint.specs.declared.Joint.{Joint}
+use Rattle.joint.specs.InRange.{ColumnInRange, FaceInRange}
+use Rattle.joint.specs.declared.Column.{Column}
+use Rattle.joint.specs.declared.Face.{Face}
 use Rattle.joint.specs.declared.Loads.{Loads}
 use Rattle.spacing.specs.Spacing.{spacingOf}
 use Rattle.tension.specs.Admissible.{Admissible}
@@ -28,22 +29,22 @@ neither false b e = (refl, e)
 neither true b e = let never : _≡_ {A = ℕ} 0 1 = cc in absurd (omega arith)
 
 -- what refusals 10, 11 and 13 leave
-pub admissible : (joint : Joint) → InRange joint → length (joint .face .levers) ≡ 8 → leversFall (joint .face) ≡ true
-    → tooTight (joint .face .extended) (spacingOf (joint .column) (joint .face)) ≡ false → Admissible joint
+pub admissible : (column : Column) (face : Face) → ColumnInRange column → FaceInRange face → length (face .levers) ≡ 8
+    → leversFall face ≡ true → tooTight (face .extended) (spacingOf column face) ≡ false → Admissible column face
 unfolding leversFall tooTight
-admissible joint r eight falling loose =
-    let face = joint .face in
-    let column = neither _ _ loose in
-    let plate = neither _ _ (column .1) in
-    let extension = neither _ _ (plate .1) in
-    let edges = neither _ _ (extension .1) in
-    let mx = spacingOf (joint .column) face .extension in
+admissible column face c f eight falling loose =
+    let past-column = neither _ _ loose in
+    let past-plate = neither _ _ (past-column .1) in
+    let past-extension = neither _ _ (past-plate .1) in
+    let edges = neither _ _ (past-extension .1) in
+    let mx = spacingOf column face .extension in
     record {
-      in-range = r;
-      falls = falls (face .levers) (face .rows) (omega (arith, eight, r .face .rows .high)) falling;
-      column-m = ltb-false _ 500 (column .0);
-      plate-m = ltb-false _ 500 (plate .0);
-      extension-m = λ extended. ltb-false _ 500 (ap (λ b. b && ltb mx 500) (sym (eq-eqb (face .extended) 1 extended)) ∙ extension .0);
+      column = c;
+      face = f;
+      falls = falls (face .levers) (face .rows) (omega (arith, eight, f .rows .high)) falling;
+      column-m = ltb-false _ 500 (past-column .0);
+      plate-m = ltb-false _ 500 (past-plate .0);
+      extension-m = λ extended. ltb-false _ 500 (ap (λ b. b && ltb mx 500) (sym (eq-eqb (face .extended) 1 extended)) ∙ past-extension .0);
       column-edge = ltb-false _ 1000 (edges .0);
       plate-edge = ltb-false _ 1000 (edges .1);
     }
