@@ -1,11 +1,11 @@
 -- What Work's refusals leave: from an answer that is no refusal, that every test of the list holds, and from those tests what the limits
 -- rely on and a cap that isn't below 0. Assumes nothing.
 use mathlib.Core.Path.{_≡_, refl, sym, ap, _∙_}
-use mathlib.Core.Bool.{Bool, true, false, not, _&&_, _||_}
+use mathlib.Core.Bool.{Bool, true, false, cond, _&&_, _||_}
 use Prim.Native.Nat.{ℕ, zero, suc}
 use native.Mathlib.Omega.{arith}
 use mathlib.Core.List.{List, _∷_}
-use lib.ListN.{length}
+use lib.ListN.{length, take}
 use lib.Dec.{ltb}
 use lib.IntN.{ℤ, pos, negsuc, _-ℤ_}
 use lib.Signed.{ltZ}
@@ -16,13 +16,16 @@ use Rattle.joint.specs.InRange.{ColumnInRange, FaceInRange}
 use Rattle.joint.specs.declared.Column.{Column}
 use Rattle.joint.specs.declared.Face.{Face}
 use Rattle.joint.specs.declared.Loads.{Loads}
+use Rattle.strength.specs.declared.BoltStrengths.{BoltStrengths}
 use Rattle.spacing.specs.Spacing.{spacingOf}
 use Rattle.tension.specs.Admissible.{Admissible}
 use Rattle.refusals.specs.Refusals.{leversFall, tooTight}
 use Rattle.refusals.proofs.Rows.{falls}
-use Rattle.governing.specs.Cap.{tensionCap, overCompressed, newtonsOf}
+use Rattle.governing.specs.Cap.{tensionCap, overCompressed, newtonsOf, capCase}
+use Rattle.governing.specs.declared.Cap.the-variants.{Newtons, Exceeded}
 use Rattle.outcome.specs.declared.Outcome.{Outcome}
-use Rattle.work.specs.Work.{refusedBy}
+use Rattle.work.specs.Work.{refusedBy, refusals}
+use Rattle.work.specs.declared.Admission.the-variants.{Admitted, Refused}
 
 neither : (a b : Bool) → (a || b) ≡ false → (a ≡ false) × (b ≡ false)
 neither false b e = (refl, e)
@@ -59,6 +62,38 @@ cap-newtons loads force under = by-sign (loads .axial) under
     by-sign (pos zero) h = refl
     by-sign (pos (suc n)) h = rw h
     by-sign (negsuc n) h = refl
+
+-- the same of a face that is admitted
+pub admitted : (column : Column) (bolt : BoltStrengths) (face : Face) → ColumnInRange column → FaceInRange face → length (face .levers) ≡ 8
+    → firstFailing Admitted Refused (take 4 (refusals column bolt face)) ≡ Admitted → Admissible column face
+unfolding refusals
+admitted column bolt face c f eight e =
+    let p11 = held Admitted Refused 11 _ _ Admitted e (apart 11) in
+    let p12 = held Admitted Refused 12 _ _ Admitted (p11 .1) (apart 12) in
+    let p13 = held Admitted Refused 13 _ _ Admitted (p12 .1) (apart 13) in
+    admissible column face c f eight (p11 .0) (not-true _ (p13 .0))
+  where
+    apart : (number : ℕ) → Refused number ≡ Admitted → ⊥
+    apart number same = let never : _≡_ {A = ℕ} 0 1 = cc in absurd (omega arith)
+
+-- which way 15 goes, by the cap's case
+pub exceeded : (loads : Loads) (force : ℕ) → Exceeded ≡ capCase loads force → overCompressed loads force ≡ true
+unfolding capCase
+exceeded loads force e = by-test (overCompressed loads force) e
+  where
+    by-test : (over : Bool) → Exceeded ≡ cond over Exceeded (Newtons (newtonsOf (tensionCap loads force))) → over ≡ true
+    by-test true h = refl
+    by-test false h = let never : _≡_ {A = ℕ} 0 1 = cc in absurd (omega arith)
+
+pub within-cap : (loads : Loads) (force cap : ℕ) → Newtons cap ≡ capCase loads force
+    → (overCompressed loads force ≡ false) × (cap ≡ newtonsOf (tensionCap loads force))
+unfolding capCase
+within-cap loads force cap e = by-test (overCompressed loads force) e
+  where
+    by-test : (over : Bool) → Newtons cap ≡ cond over Exceeded (Newtons (newtonsOf (tensionCap loads force)))
+        → (over ≡ false) × (cap ≡ newtonsOf (tensionCap loads force))
+    by-test true h = let never : _≡_ {A = ℕ} 0 1 = cc in absurd (omega arith)
+    by-test false h = (refl, cc)
 
 -- a refusal has its number
 pub refusal-is : (number field : ℕ) (answer : Outcome) → refusedBy number field ≡ answer → answer .refusal .number ≡ 0 → number ≡ 0

@@ -146,13 +146,7 @@ fn governing_of(column: Column, face: Face, steel: SteelStrengths) -> Compressio
     requires { ⌜ PartsInRange steel column (face .beam) (face .plate) (face .welds) × (steel ≡ steelOf column face) ⌝ }
     ensures { λ r. ⌜ (r ≡ governingOf column face) × (forceOf r ≤ mostBearing) ⌝ }
 {
-    let resistances = compression::resistances_of(
-        steel,
-        column,
-        face.beam,
-        face.plate,
-        face.welds,
-    );
+    let resistances = compression::resistances_of(steel, column, face.beam, face.plate, face.welds);
     governing::governing_check(resistances)
 }
 
@@ -182,7 +176,13 @@ fn result_of(
 }
 
 // The forces of a face's rows, under the limits of all groups and the cap on them together.
-fn row_forces(column: Column, bolt: BoltStrengths, face: Face, measures: Measures, cap: u64) -> [u64; 8]
+fn row_forces(
+    column: Column,
+    bolt: BoltStrengths,
+    face: Face,
+    measures: Measures,
+    cap: u64,
+) -> [u64; 8]
     requires { ⌜ Measured column bolt face measures ⌝ }
     ensures { λ r. ⌜ r ≡ eightPlaces (shared (withCap (limitOf column bolt face) (rowsOf face) cap) (rowsOf face)) ⌝ }
     ensures { λ r. ⌜ ((k : ℕ) → getD r k 0 ≤ mostLimit) ⌝ }
@@ -220,14 +220,7 @@ fn judge(
     let idle = ((face.rows + face.shear_rows) as u64) - tally.pulling;
     Verdicts {
         bending: verdicts::carries_moment(face.loads, beam, tally.moment),
-        bolts: verdicts::bolts_carry(
-            bolt,
-            column,
-            plate,
-            tally.pulling,
-            idle,
-            face.loads.shear,
-        ),
+        bolts: verdicts::bolts_carry(bolt, column, plate, tally.pulling, idle, face.loads.shear),
         flange_weld: verdicts::flange_weld(
             face,
             measures.steel.beam,
