@@ -37,6 +37,6 @@ module _ (bytes : List ℕ) (joint : Joint) (left : List ℕ) (e : readJoint byt
   unfolding readJoint
   joint-shorter =
       let (rows, rest, first, others) =
-          then-got (readNumber bytes) (λ rows rest. cond (within rowCounts rows) (readOthers rows rest) (refused 3)) joint left e in
+      then-got (readNumber bytes) (λ rows rest. cond (within rowCounts rows) (readOthers rows rest) (refused 3)) joint left e in
       let end : EndOf rest left = rw others at (after-rows rows rest) in
       omega (arith, end .short, number-shorter bytes rows rest first)

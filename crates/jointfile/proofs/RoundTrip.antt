@@ -46,7 +46,7 @@ eight-levers : (rows : ℕ) (levers : List ℕ) → length levers ≡ 8 → rows
 unfolding eightPlaces
 eight-levers rows levers long few spare =
     let count : 8 - length (take rows levers) ≡ length (drop rows levers) =
-        simp (length-take, length-drop) (omega arith) in
+    simp (length-take, length-drop) (omega arith) in
     rw (count, zeros (drop rows levers) spare, take-append-drop)
 
 take-small : (n : ℕ) (xs : List ℕ) → ((k : ℕ) → getD xs k 0 < 2 ^ 32) → (k : ℕ) → getD (take n xs) k 0 < 2 ^ 32
@@ -169,10 +169,11 @@ took-others : (bytes : List ℕ) (rows : ℕ) (bytes₁ : List ℕ) (joint : Joi
 unfolding readOthers
 took-others bytes rows bytes₁ joint left all first count e =
     let (others, bytes₂, read, e₁) =
-        then-got (readNumbers 28 bytes₁)
-        (λ others rest. andThen (readNumbers rows rest) (λ levers end. got (jointOf (rows ∷ others) (eightPlaces levers)) end)) joint left e in
+    then-got (readNumbers 28 bytes₁)
+    (λ others rest. andThen (readNumbers rows rest) (λ levers end. got (jointOf (rows ∷ others) (eightPlaces levers)) end))
+    joint left e in
     let (levers, end, read′, e₂) =
-        then-got (readNumbers rows bytes₂) (λ levers end. got (jointOf (rows ∷ others) (eightPlaces levers)) end) joint left e₁ in
+    then-got (readNumbers rows bytes₂) (λ levers end. got (jointOf (rows ∷ others) (eightPlaces levers)) end) joint left e₁ in
     let form = stored-read bytes rows bytes₁ all first in
     let all₁ = bytes-left (stored rows) bytes₁ bytes form all in
     let taken = taken-all 28 bytes₁ others bytes₂ all₁ read in
@@ -187,7 +188,7 @@ pub writes-again : (bytes : List ℕ) (joint : Joint) (left : List ℕ) → Byte
 unfolding readJoint
 writes-again bytes joint left all e =
     let (rows, bytes₁, first, e₁) =
-        then-got (readNumber bytes) (λ rows rest. cond (within rowCounts rows) (readOthers rows rest) (refused 3)) joint left e in
+    then-got (readNumber bytes) (λ rows rest. cond (within rowCounts rows) (readOthers rows rest) (refused 3)) joint left e in
     counted rows bytes₁ first (within rowCounts rows) refl e₁
   where
     counted : (rows : ℕ) (bytes₁ : List ℕ) → readNumber bytes ≡ got rows bytes₁ → (t : Bool) → within rowCounts rows ≡ t

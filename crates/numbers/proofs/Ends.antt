@@ -29,7 +29,7 @@ end-later byte {bytes} {left} e =
 pub end-end : {bytes rest left : List ℕ} → EndOf bytes rest → EndOf rest left → EndOf bytes left
 end-end {bytes} {rest} {left} first second =
     let both : length bytes - length rest + (length rest - length left) ≡ length bytes - length left =
-        omega (arith, first .short, second .short) in
+    omega (arith, first .short, second .short) in
     record {
       short = omega (arith, first .short, second .short);
       is =

@@ -46,7 +46,7 @@ taken-all zero bytes xs left all e =
     rw (← none, ← whole) (record { form = refl; long = refl; small = λ k. omega arith })
 taken-all (suc count) bytes xs left all e =
     let (x, after-x, first, e₁) =
-        then-got (readNumber bytes) (λ x rest. andThen (readNumbers count rest) (λ ys end. got (x ∷ ys) end)) xs left e in
+    then-got (readNumber bytes) (λ x rest. andThen (readNumbers count rest) (λ ys end. got (x ∷ ys) end)) xs left e in
     let (ys, end, others, e₂) = then-got (readNumbers count after-x) (λ ys end. got (x ∷ ys) end) xs left e₁ in
     let form = stored-read bytes x after-x all first in
     let is : x ∷ ys ≡ xs = cc in
