@@ -24,7 +24,8 @@ abbrev pub safe : ℕ → ℕ → Bool
 safe k guess = above k guess && small guess
 
 -- so the guess for x's length is safe for x
-pub stored : (table : List ℕ) → length table ≡ 64 → T (every safe 0 table) → (x n : ℕ) → BitLength x n → Guess x (getD table (n - 1) 0)
+pub stored : (table : List ℕ) → length table ≡ 64 → T (every safe 0 table) → (x n : ℕ) → BitLength x n
+    → Guess x (getD table (n - 1) 0)
 stored table whole t x n l =
     let k : ℕ = n - 1 in
     let guess : ℕ = getD table k 0 in
@@ -36,5 +37,6 @@ stored table whole t x n l =
       small = ltb→lt guess (2 ^ 32) (both .1);
     }
 
-pub stored-small : (table : List ℕ) → length table ≡ 64 → T (every safe 0 table) → (x n : ℕ) → BitLength x n → getD table (n - 1) 0 < 2 ^ 32
+pub stored-small : (table : List ℕ) → length table ≡ 64 → T (every safe 0 table) → (x n : ℕ) → BitLength x n
+    → getD table (n - 1) 0 < 2 ^ 32
 stored-small table whole t x n l = stored table whole t x n l .small
