@@ -19,7 +19,14 @@ use Rattle.joint.specs.declared.Plate.{Plate}
 use Rattle.strength.specs.Steel.{bands, steelStrength, steelStrengths, steelBearing, weldStrength}
 use Rattle.strength.specs.Bolt.{boltArea, boltTension, boltShear, boltBearing, boltUltimate, pairTension, pairShear, boltStrengths}
 use Rattle.strength.specs.InRange.{
-  yieldStrengths, boltDiameters, boltBearings, ultimateStrengths, steelBearings, weldStrengths, SteelInRange, BoltInRange
+  yieldStrengths,
+  boltDiameters,
+  boltBearings,
+  ultimateStrengths,
+  steelBearings,
+  weldStrengths,
+  SteelInRange,
+  BoltInRange,
 }
 
 -- a table's range holds at each of its keys

@@ -119,7 +119,7 @@ module _ (n : ℕ) (limit : Table) (few : n ≤ rowCounts .high) (entry : List �
         untouched = λ k later. f .untouched k (omega arith);
       }
 
--- where no place was above the greatest limit, none is
+-- where no place was above the greatest limit, none is: for Work, which lends zeros
 pub none-above : {n : ℕ} {limit : Table} {entry exit : List ℕ} → Filled n limit entry exit
     → ((k : ℕ) → getD entry k 0 ≤ mostLimit) → (k : ℕ) → getD exit k 0 ≤ mostLimit
 none-above {n} f small k =

@@ -21,7 +21,14 @@ use Rattle.strength.proofs.Ranges.{steel-range, steel-in-range}
 use Rattle.spacing.specs.Spacing.{spacingOf}
 use Rattle.spacing.specs.declared.Spacing.{Spacing}
 use Rattle.stubs.specs.InRange.{
-  boltDistances, extensionDistances, edgeDistances, mostPattern, mostWebGauge, mostWeb, StubParts, ExtensionParts
+  boltDistances,
+  extensionDistances,
+  edgeDistances,
+  mostPattern,
+  mostWebGauge,
+  mostWeb,
+  StubParts,
+  ExtensionParts,
 }
 use Rattle.stubs.proofs.Sizes.{stub-within, lengths-within}
 use Rattle.tension.specs.Dimensions.{dimensionsOf, plateSideBy}

@@ -23,7 +23,14 @@ use Rattle.stubs.specs.declared.Stub.{Stub}
 use Rattle.stubs.proofs.Same.{bending-worked, web-worked, length-worked}
 use Rattle.sharing.specs.Groups.{mostLimit}
 use Rattle.tension.specs.Limits.{
-  rowsIn, columnFlangeBending, extensionBending, endPlateBending, endPlateLimits, columnWebTension, beamWebLimits, groupLimit
+  rowsIn,
+  columnFlangeBending,
+  extensionBending,
+  endPlateBending,
+  endPlateLimits,
+  columnWebTension,
+  beamWebLimits,
+  groupLimit,
 }
 use Rattle.tension.specs.Dimensions.{dimensionsOf, columnBy, plateSideBy, plateBy, websBy, limitBy, limitsBy}
 use Rattle.tension.specs.InRange.{DimensionsWithin}

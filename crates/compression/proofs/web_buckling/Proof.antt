@@ -17,7 +17,8 @@ use Rattle.compression.proofs.web_buckling.Tie as tie
 
 -- ---- the products, as the ranges bound them
 
-squared : {b yc : ℕ} {column : Column} → WebParts b yc column → Within (webs .low * webs .low to webs .high * webs .high) (column .web * column .web)
+squared : {b yc : ℕ} {column : Column} → WebParts b yc column
+    → Within (webs .low * webs .low to webs .high * webs .high) (column .web * column .web)
 squared r = r .column .web ⊗ r .column .web
 
 -- ---- back to the start, from the root that was found

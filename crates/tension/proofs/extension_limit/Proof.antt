@@ -12,8 +12,11 @@ use Rattle.tension.proofs.extension_limit.Tie as tie
 
 -- ---- back to the start, from each place on the way of an extended plate
 
+abbrev from-layout : tie.After-layout → tie.Start
+from-layout c = c .before .before
+
 abbrev from-test : tie.Else1 → tie.Start
-from-test c = c .before .before .before .before
+from-test c = from-layout (c .before .before)
 
 abbrev from-end : tie.After-times → tie.Start
 from-end c = from-test (c .before)
@@ -36,7 +39,7 @@ times-requires c κs =
 
 -- the parts of the stub, where the extension's end is worked
 parts : (c : tie.After-times)
-    → StubParts (from-end c .args .m) (c .times .result) (from-end c .args .face .plate .thickness) (from-end c .args .strength) (from-end c .args .pair)
+    → (let a = from-end c .args in StubParts (a .m) (c .times .result) (a .face .plate .thickness) (a .strength) (a .pair))
 parts c =
     let a = from-end c .args in
     extension-parts (a .face) (a .m) (a .plate-edge) (a .strength) (a .pair) (from-end c .pre) (c .before .if1 .left) _ (c .times .ensures)

@@ -93,7 +93,7 @@ add-row c =
 
 is-limit : (c : tie.After-group-limit Inv-loop μ-loop)
     → (let l = loop-of (c .before) .loop in let a = loop-of (c .before) .before .args in
-      c .group-limit .result ≡ limitsBy (a .d) (a .t3) (l .row) (l .last))
+    c .group-limit .result ≡ limitsBy (a .d) (a .t3) (l .row) (l .last))
 is-limit c =
     let l = loop-of (c .before) .loop in
     let a = loop-of (c .before) .before .args in

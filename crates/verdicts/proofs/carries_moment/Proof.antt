@@ -40,19 +40,21 @@ product-le n depth flange hn hd = mul-le-mul {n₁ = n} {m₁ = depth - flange} 
 
 pushed : (c : tie.After-known-told)
     → (let beam = from-compression c .args .beam in
-      c .before .axial .given .0 .0 * (beam .depth - beam .flange) ≤ loads .high * depths .high)
+    c .before .axial .given .0 .0 * (beam .depth - beam .flange) ≤ loads .high * depths .high)
 pushed c =
     let s = from-compression c in
     let size = size-of-compression (s .args .loads .axial) (c .before .axial .given .0 .0) (compression c) in
-    product-le _ (s .args .beam .depth) (s .args .beam .flange) (omega (arith, size, s .pre .loads .axial .high)) (s .pre .beam .depth .high)
+    product-le _ (s .args .beam .depth) (s .args .beam .flange)
+    (omega (arith, size, s .pre .loads .axial .high)) (s .pre .beam .depth .high)
 
 drawn : (c : tie.After-known-told2)
     → (let beam = from-tension c .args .beam in
-      c .before .axial2 .given .0 .0 * (beam .depth - beam .flange) ≤ loads .high * depths .high)
+    c .before .axial2 .given .0 .0 * (beam .depth - beam .flange) ≤ loads .high * depths .high)
 drawn c =
     let s = from-tension c in
     let size = size-of-tension (s .args .loads .axial) (c .before .axial2 .given .0 .0) (tension c) in
-    product-le _ (s .args .beam .depth) (s .args .beam .flange) (omega (arith, size, s .pre .loads .axial .high)) (s .pre .beam .depth .high)
+    product-le _ (s .args .beam .depth) (s .args .beam .flange)
+    (omega (arith, size, s .pre .loads .axial .high)) (s .pre .beam .depth .high)
 
 -- ---- the needs
 
