@@ -11,7 +11,6 @@ use Rattle.joint.specs.declared.Loads.{Loads}
 use Rattle.joint.proofs.Axial.{is-compression, is-tension}
 use Rattle.governing.specs.Cap.{tensionCap, overCompressed, newtonsOf}
 use Rattle.governing.specs.Answers.{capCase}
-use Rattle.governing.specs.declared.Cap.{Cap}
 use Rattle.governing.specs.declared.Cap.the-variants.{Newtons, Exceeded}
 
 less : (force n : ℕ) → n ≤ force → newtonsOf (pos force -ℤ pos n) ≡ force - n

@@ -1,7 +1,6 @@
 -- `extension_limit` meets its contract: 0 if flush, else bending of the extension's own stub. Assumes nothing.
 use native.Mathlib.Omega.{arith}
 use borrow.Author.Tests.{eq-eqb, ne-eqb}
-use Rattle.arithmetic.specs.Range.{_to_}
 use Rattle.arithmetic.proofs.Bounds.{atMost, exactly, loosen}
 use Rattle.stubs.specs.InRange.{StubParts, groupRows}
 use Rattle.stubs.proofs.Sizes.{stub-within, extension-length-le}
