@@ -20,7 +20,8 @@ use Rattle.spacing.specs.Spacing.{spacingOf}
 use Rattle.tension.specs.Admissible.{Admissible}
 use Rattle.refusals.specs.Refusals.{leversFall, tooTight}
 use Rattle.refusals.proofs.Rows.{falls}
-use Rattle.governing.specs.Cap.{tensionCap, overCompressed, newtonsOf, capCase}
+use Rattle.governing.specs.Cap.{tensionCap, overCompressed, newtonsOf}
+use Rattle.governing.specs.Answers.{capCase}
 use Rattle.governing.specs.declared.Cap.the-variants.{Newtons, Exceeded}
 use Rattle.outcome.specs.declared.Outcome.{Outcome}
 use Rattle.work.specs.Work.{refusedBy, refusals, completed, resultOf, workedFace}
