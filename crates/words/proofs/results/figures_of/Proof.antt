@@ -1,9 +1,9 @@
--- `outcomes::figures_of` meets its contract: check, force and verdicts are what their functions ensure, and the rest is as it stands.
+-- `results::figures_of` meets its contract: check, force and verdicts are what their functions ensure, and the rest is as it stands.
 -- Assumes nothing.
-use Rattle.words.specs.Outcomes.{figuresOf}
+use Rattle.words.specs.Results.{figureWords}
 use borrow.Author.Needs.{needs}
-use Rattle.words.proofs.outcomes.figures_of.Statement.{statement}
-use Rattle.words.proofs.outcomes.figures_of.Tie as tie
+use Rattle.words.proofs.results.figures_of.Statement.{statement}
+use Rattle.words.proofs.results.figures_of.Tie as tie
 
 check-number-requires : tie.Need-check-number-requires
 check-number-requires c κs = search needs
@@ -24,7 +24,7 @@ flag-of-requires-4 : tie.Need-flag-of-requires-4
 flag-of-requires-4 c κs = search needs
 
 returns : tie.Need-returns
-unfolding figuresOf
+unfolding figureWords
 returns c =
     let weld = c .before .before .before in
     rw (
