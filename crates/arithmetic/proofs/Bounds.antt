@@ -38,7 +38,10 @@ fits p t = fits-below t (p .high)
 pub loosen : {r : Range} {x : ℕ} (s : Range) → Within r x → T (leb (s .low) (r .low) && leb (r .high) (s .high)) → Within s x
 loosen {r} s p t =
     let ends = and-yes (leb (s .low) (r .low)) (leb (r .high) (s .high)) t in
-    record { low = le-trans (leb→le (s .low) (r .low) (ends .0)) (p .low); high = le-trans (p .high) (leb→le (r .high) (s .high) (ends .1)) }
+    record {
+      low = le-trans (leb→le (s .low) (r .low) (ends .0)) (p .low);
+      high = le-trans (p .high) (leb→le (r .high) (s .high) (ends .1));
+    }
 
 -- the fact from the test
 pub within-yes : (range : Range) (x : ℕ) → T (within range x) → Within range x

@@ -3,7 +3,8 @@
 use mathlib.Core.Path.{_≡_, refl, sym, ap, subst, fun-ext, _∙_}
 use mathlib.Core.Bool.{Bool, true, false, cond}
 use Prim.Native.Nat.{ℕ, zero, suc, _+_, _*_, _/_, _^_, _≤_, _<_}
-use native.Mathlib.Nat.{le-antisymm, le-trans, lt-irrefl, lt-of-lt-of-le, lt-of-not-le, add-assoc, zero-add, mul-comm, two-pow-succ, le-div-iff-mul-le, div-lt-iff-lt-mul}
+use native.Mathlib.Nat.{le-antisymm, le-trans, lt-irrefl, lt-of-lt-of-le, lt-of-not-le, add-assoc, zero-add, mul-comm, two-pow-succ}
+use native.Mathlib.Nat.{le-div-iff-mul-le, div-lt-iff-lt-mul}
 use native.Mathlib.Decide.{decLe}
 use native.Mathlib.Numerals.{add-one}
 use borrow.Author.Tests.{le-leb, lt-leb}
@@ -19,7 +20,8 @@ module _ (test : ℕ → Bool) where
   Edge r = T (test r) × (T (test (r + 1)) → ⊥)
 
   -- half the way: the search goes on from the middle where that passes, and else below it
-  halved : (digits found : ℕ) (passes : Bool) → test (found + 2 ^ digits) ≡ passes → T (test found) → (T (test (found + 2 ^ digits + 2 ^ digits)) → ⊥) →
+  halved : (digits found : ℕ) (passes : Bool) → test (found + 2 ^ digits) ≡ passes → T (test found) →
+      (T (test (found + 2 ^ digits + 2 ^ digits)) → ⊥) →
       ((from : ℕ) → T (test from) → (T (test (from + 2 ^ digits)) → ⊥) → Edge (search-from test digits from)) →
       Edge (search-from test digits (cond passes (found + 2 ^ digits) found))
   halved digits found true e p q rest = rest (found + 2 ^ digits) (subst (λ (b : Bool). T b) (sym e) tt) q
@@ -46,7 +48,8 @@ module _ (f : ℕ → ℕ) (limit digits : ℕ) (rises : (v w : ℕ) → v ≤ w
       edge : Edge (λ (w : ℕ). leb (f w) limit) found
       edge =
           searched (λ (w : ℕ). leb (f w) limit) digits 0 (le→leb (f 0) limit start)
-          (λ (t : T (leb (f (0 + 2 ^ digits)) limit)). lt-irrefl limit (lt-of-lt-of-le above (leb→le (f (2 ^ digits)) limit (rw zero-add at t))))
+          (λ (t : T (leb (f (0 + 2 ^ digits)) limit)).
+          lt-irrefl limit (lt-of-lt-of-le above (leb→le (f (2 ^ digits)) limit (rw zero-add at t))))
 
       no-more : (v : ℕ) → f v ≤ limit → Dec (v ≤ found) → v ≤ found
       no-more v h (yes p) = p
@@ -54,8 +57,10 @@ module _ (f : ℕ → ℕ) (limit digits : ℕ) (rises : (v w : ℕ) → v ≤ w
 
 -- a limit may be divided by a factor of the figure, rounded down
 pub unscaled : (digits : ℕ) (f : ℕ → ℕ) (limit k : ℕ) → 0 < k → greatest digits f (limit / k) ≡ greatest digits (λ (w : ℕ). k * f w) limit
-unscaled digits f limit k p = ap (λ (test : ℕ → Bool). search-from test digits 0) (fun-ext (λ (w : ℕ). same (f w) (decLe (f w) (limit / k))))
+unscaled digits f limit k p =
+    ap (λ (test : ℕ → Bool). search-from test digits 0) (fun-ext (λ (w : ℕ). same (f w) (decLe (f w) (limit / k))))
   where
     same : (a : ℕ) → Dec (a ≤ limit / k) → leb a (limit / k) ≡ leb (k * a) limit
     same a (yes h) = le-leb a (limit / k) h ∙ sym (le-leb (k * a) limit (rw (mul-comm k a) (le-div-iff-mul-le p .0 h)))
-    same a (no q) = lt-leb a (limit / k) (lt-of-not-le q) ∙ sym (lt-leb (k * a) limit (rw (mul-comm k a) (div-lt-iff-lt-mul p .0 (lt-of-not-le q))))
+    same a (no q) =
+        lt-leb a (limit / k) (lt-of-not-le q) ∙ sym (lt-leb (k * a) limit (rw (mul-comm k a) (div-lt-iff-lt-mul p .0 (lt-of-not-le q))))

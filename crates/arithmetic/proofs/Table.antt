@@ -57,4 +57,5 @@ pub of-one : (f : ℕ → Bool) (xs : List ℕ) → T (each f xs xs) → (x : �
 of-one f [] t x h = absurd h
 of-one f (y ∷ ys) t x h =
     let both = and-yes (f y) (each f ys ys) t in
-    ⊎-elim (λ (e : T (eqb x y)). subst (λ (z : ℕ). T (f z)) (sym (eqb→eq x y e)) (both .0)) (of-one f ys (both .1) x) (or-yes (eqb x y) (oneOf ys x) h)
+    ⊎-elim (λ (e : T (eqb x y)). subst (λ (z : ℕ). T (f z)) (sym (eqb→eq x y e)) (both .0)) (of-one f ys (both .1) x)
+    (or-yes (eqb x y) (oneOf ys x) h)

@@ -1,4 +1,4 @@
-// Arithmetic that several rooms share. Most of it is definitions and laws: see specs/ and proofs/.
+// Arithmetic that several crates share. Most of it is definitions and laws: see specs/ and proofs/.
 ghost use mathlib.Core.Path.{_≡_};
 ghost use Prim.Native.Nat.{min};
 

@@ -1,83 +1,79 @@
--- Checking fields one after the other finds the first that fails: the answers of the parts join up to the answer of the whole list.
+-- Checking fields one after the other finds the first that fails: what the parts find is what the whole list does.
 -- Assumes nothing.
 use mathlib.Core.Path.{_≡_, refl, sym, ap, _∙_}
-use mathlib.Core.Bool.{Bool, true, false, cond}
 use mathlib.Core.List.{List, [], _∷_, _++_}
 use Prim.Native.Nat.{ℕ, _+_, _<_}
 use native.Mathlib.Numerals.{add-one}
+use native.Mathlib.Omega.{arith}
 use lib.ListN.{length, getD, drop}
 use lib.Seq.{drop-cons, drop-length}
+use Rattle.arithmetic.specs.Checks.{Check, firstFailing}
 use Rattle.arithmetic.specs.Range.{within}
+use Rattle.arithmetic.proofs.Checks.{stops, goes-on}
 use Rattle.joint.specs.Ranges.{levers}
-use Rattle.joint.specs.Fields.{Field, firstOutside, after, headFields, gradeFields, columnFields, beamFields, plateFields, weldFields, loadFields, leverFields, fixedFields, fieldsOf, fieldCheck}
-use Rattle.joint.specs.declared.Joint.{Joint}
+use Rattle.joint.specs.Fields.{headChecks, gradeChecks, columnChecks, beamChecks, plateChecks, weldChecks, loadChecks, leverChecks}
+use Rattle.joint.specs.Fields.{fixedChecks, fieldChecks, fieldCheck}
+use Rattle.joint.specs.Steps.{foundBy}
+use Rattle.joint.specs.declared.Column.{Column}
+use Rattle.joint.specs.declared.Bolts.{Bolts}
+use Rattle.joint.specs.declared.Face.{Face}
 use Rattle.joint.specs.declared.FieldCheck.{FieldCheck}
 use Rattle.joint.specs.declared.FieldCheck.the-variants.{AllInRange, Outside}
 
--- some fields, and then some more
-pub joined : (found : FieldCheck) (xs ys : List Field) → after (after found xs) ys ≡ after found (xs ++ ys)
-unfolding after firstOutside
-joined (Outside field) xs ys = refl
-joined AllInRange [] ys = refl
-joined AllInRange (x ∷ xs) ys = held (x .1) (joined AllInRange xs ys)
-  where
-    held : (holds : Bool) → after (firstOutside xs) ys ≡ firstOutside (xs ++ ys) →
-        after (cond holds (firstOutside xs) (Outside (x .0))) ys ≡ cond holds (firstOutside (xs ++ ys)) (Outside (x .0))
-    held true e = e
-    held false e = refl
+pub apart : (number : ℕ) → AllInRange ≡ Outside number → ⊥
+apart number e = let z : _≡_ {A = ℕ} 0 1 = cc in omega arith
 
-pub from-start : (fields : List Field) → after AllInRange fields ≡ firstOutside fields
-unfolding after
-from-start fields = refl
+-- before the first field
+pub nothing-asked : AllInRange ≡ foundBy []
+unfolding firstFailing
+nothing-asked = refl
 
--- Some fields, and then some more: where one of the first fails, that is the answer, and else it is that of the others.
-module _ (xs ys : List Field) where
-  whole : after (firstOutside xs) ys ≡ firstOutside (xs ++ ys)
-  unfolding after
-  whole = joined AllInRange xs ys
+-- ---- one part after another: where a field of the first fails, that is the answer, and else it is that of the others
 
-  pub stops : {found : FieldCheck} {field : ℕ} → found ≡ firstOutside xs → found ≡ Outside field → found ≡ firstOutside (xs ++ ys)
-  unfolding after
-  stops e failed = failed ∙ ap (λ (f : FieldCheck). after f ys) (sym failed ∙ e) ∙ whole
+module _ (xs ys : List Check) where
+  pub part-stops : {found : FieldCheck} {field : ℕ} → found ≡ foundBy xs → found ≡ Outside field → found ≡ foundBy (xs ++ ys)
+  part-stops {field = field} e failed = failed ∙ sym (stops AllInRange Outside apart xs ys field (sym e ∙ failed))
 
-  pub goes-on : {found answer : FieldCheck} → found ≡ firstOutside xs → found ≡ AllInRange → answer ≡ firstOutside ys → answer ≡ firstOutside (xs ++ ys)
-  unfolding after
-  goes-on e held rest = rest ∙ ap (λ (f : FieldCheck). after f ys) (sym held ∙ e) ∙ whole
+  pub part-holds : {found answer : FieldCheck} → found ≡ foundBy xs → found ≡ AllInRange → answer ≡ foundBy ys → answer ≡ foundBy (xs ++ ys)
+  part-holds e held rest = rest ∙ sym (goes-on AllInRange Outside apart xs ys (sym e ∙ held))
 
--- the levers from a row on: that of the row, and those below it
+-- ---- the levers from a row on: that of the row, and those below it
+
 module _ (rows row : ℕ) (hs : List ℕ) where
-  pub next-lever : row < length hs →
-      leverFields rows row (drop row hs) ≡ ((30 + row, within (levers rows row) (getD hs row 0)) ∷ []) ++ leverFields rows (row + 1) (drop (row + 1) hs)
-  unfolding leverFields
+  pub next-lever : row < length hs
+      → leverChecks rows row (drop row hs)
+      ≡ ((30 + row, within (levers rows row) (getD hs row 0)) ∷ []) ++ leverChecks rows (row + 1) (drop (row + 1) hs)
+  unfolding leverChecks
   next-lever h = rw (add-one, drop-cons hs row 0)
 
-  pub no-lever : row ≡ length hs → AllInRange ≡ firstOutside (leverFields rows row (drop row hs))
-  unfolding leverFields firstOutside
+  pub no-lever : row ≡ length hs → AllInRange ≡ foundBy (leverChecks rows row (drop row hs))
+  unfolding leverChecks firstFailing
   no-lever e = rw (e, drop-length)
 
--- a joint's fields from each part of the check on
-module _ (joint : Joint) where
-  abbrev pub from-levers : List Field
-  from-levers = leverFields (joint .face .rows) 0 (joint .face .levers)
+-- ---- the fields from each part of the check on
 
-  abbrev pub from-loads : List Field
-  from-loads = loadFields (joint .face .loads) ++ from-levers
+module _ (column : Column) (bolts : Bolts) (face : Face) where
+  abbrev pub from-levers : List Check
+  from-levers = leverChecks (face .rows) 0 (face .levers)
 
-  abbrev pub from-welds : List Field
-  from-welds = weldFields (joint .face .welds) (joint .face .«shear_rows») ++ from-loads
+  abbrev pub from-loads : List Check
+  from-loads = loadChecks (face .loads) ++ from-levers
 
-  abbrev pub from-plate : List Field
-  from-plate = plateFields (joint .face .extended) (joint .face .plate) (joint .face .layout) ++ from-welds
+  abbrev pub from-welds : List Check
+  from-welds = weldChecks (face .welds) (face .«shear_rows») ++ from-loads
 
-  abbrev pub from-beam : List Field
-  from-beam = beamFields (joint .face .beam) ++ from-plate
+  abbrev pub from-plate : List Check
+  from-plate = plateChecks (face .extended) (face .plate) (face .layout) ++ from-welds
 
-  abbrev pub from-column : List Field
-  from-column = columnFields (joint .column) ++ from-beam
+  abbrev pub from-beam : List Check
+  from-beam = beamChecks (face .beam) ++ from-plate
 
-  abbrev pub from-grades : List Field
-  from-grades = gradeFields (joint .column .grade) (joint .face .beam .grade) (joint .face .plate .grade) ++ from-column
+  abbrev pub from-column : List Check
+  from-column = columnChecks column ++ from-beam
 
-  pub from-head : firstOutside (headFields (joint .face .rows) (joint .face .extended) (joint .bolts) ++ from-grades) ≡ fieldCheck joint
-  unfolding fieldCheck fieldsOf fixedFields
+  abbrev pub from-grades : List Check
+  from-grades = gradeChecks (column .grade) (face .beam .grade) (face .plate .grade) ++ from-column
+
+  pub from-head : foundBy (headChecks (face .rows) (face .extended) bolts ++ from-grades) ≡ fieldCheck column bolts face
+  unfolding fieldCheck fieldChecks fixedChecks
   from-head = refl

@@ -1,5 +1,5 @@
--- Where the check finds nothing, each of a joint's fields is in its range: every test of the list has passed, and each named range is
--- read off at its field's number. Assumes nothing.
+-- Where the check finds nothing, each field is in its range: every test of the list has passed, and each named range is read off at its
+-- field's number. Assumes nothing.
 use mathlib.Core.Path.{_≡_, sym, ap, subst, _∙_}
 use mathlib.Core.Bool.{Bool, true, false, cond}
 use mathlib.Core.List.{List, [], _∷_}
@@ -13,62 +13,58 @@ use lib.IntN.{ℤ, pos, negsuc, natAbs}
 use lib.ListN.{length, getD, List·getD-eq-default}
 use lib.Seq.{getD-append-add}
 use mir.Facts.{and-yes}
+use Rattle.arithmetic.specs.Checks.{Check}
 use Rattle.arithmetic.specs.Range.{Within, within, _to_}
+use Rattle.arithmetic.proofs.Checks.{all-hold}
 use Rattle.arithmetic.proofs.Bounds.{within-yes}
-use Rattle.joint.specs.Ranges.{rowCounts, flags, depths, widths, flanges, webs, radii, clears, plateWidths, thicknesses, gauges, edges, alphas, legs, weldLengths, shearRowCounts, loads, levers}
-use Rattle.joint.specs.Fields.{Field, firstOutside, fieldCheck, fieldsOf, fixedFields, leverFields, withinBothSigns}
+use Rattle.joint.specs.Ranges.{rowCounts, flags, depths, widths, flanges, webs, radii, clears}
+use Rattle.joint.specs.Ranges.{plateWidths, thicknesses, gauges, edges, alphas, legs, weldLengths, shearRowCounts, loads, levers}
+use Rattle.joint.specs.Fields.{fieldCheck, fieldChecks, fixedChecks, leverChecks, withinBothSigns}
 use Rattle.joint.specs.InRange.{InRange, FaceInRange}
-use Rattle.joint.specs.declared.Joint.{Joint}
+use Rattle.joint.specs.declared.Column.{Column}
+use Rattle.joint.specs.declared.Bolts.{Bolts}
 use Rattle.joint.specs.declared.Face.{Face}
-use Rattle.joint.specs.declared.FieldCheck.{FieldCheck}
 use Rattle.joint.specs.declared.FieldCheck.the-variants.{AllInRange, Outside}
+use Rattle.joint.proofs.Fields.{apart}
 
 -- the test at a place of the list; past its end nothing is asked
-abbrev test : List Field → ℕ → Bool
-test fields k = getD fields k (0, true) .1
+abbrev test : List Check → ℕ → Bool
+test checks k = getD checks k (0, true) .1
 
--- the first field held, and so did the others
-head-and-rest : (holds : Bool) (number : ℕ) (rest : FieldCheck) → cond holds rest (Outside number) ≡ AllInRange → T holds × (rest ≡ AllInRange)
-head-and-rest true number rest e = (tt, e)
-head-and-rest false number rest e = let z : _≡_ {A = ℕ} 0 1 = cc in absurd (omega arith)
-
-all-hold : (fields : List Field) → firstOutside fields ≡ AllInRange → (k : ℕ) → T (test fields k)
-unfolding firstOutside
-all-hold [] e k = tt
-all-hold (x ∷ xs) e zero = head-and-rest (x .1) (x .0) (firstOutside xs) e .0
-all-hold (x ∷ xs) e (suc k) = all-hold xs (head-and-rest (x .1) (x .0) (firstOutside xs) e .1) k
-
-lever-test : (n row : ℕ) (hs : List ℕ) (k : ℕ) → k < length hs → test (leverFields n row hs) k ≡ within (levers n (row + k)) (getD hs k 0)
-unfolding leverFields
+lever-test : (n row : ℕ) (hs : List ℕ) (k : ℕ) → k < length hs → test (leverChecks n row hs) k ≡ within (levers n (row + k)) (getD hs k 0)
+unfolding leverChecks
 lever-test n row [] k h = absurd (not-suc-le-zero h)
 lever-test n row (x ∷ xs) zero h = rw add-zero
 lever-test n row (x ∷ xs) (suc k) h =
-    lever-test n (suc row) xs k (le-of-suc-le-suc h) ∙ ap (λ (i : ℕ). within (levers n i) (getD xs k 0)) (suc-add row k ∙ sym (add-suc row k))
+    lever-test n (suc row) xs k (le-of-suc-le-suc h)
+    ∙ ap (λ (i : ℕ). within (levers n i) (getD xs k 0)) (suc-add row k ∙ sym (add-suc row k))
 
 size : (force : ℤ) → T (withinBothSigns force) → Within loads (natAbs force)
 size (pos n) t = record { low = zero-le; high = leb→le n (loads .high) t }
 size (negsuc n) t = record { low = zero-le; high = let h = leb→le n 9999999 (and-yes (leb n 9999999) true t .0) in omega arith }
 
-module _ (joint : Joint) (found : fieldCheck joint ≡ AllInRange) where
-  field : (number : ℕ) → T (test (fieldsOf joint) (number - 1))
+module _ (column : Column) (bolts : Bolts) (face : Face) (found : fieldCheck column bolts face ≡ AllInRange) where
+  held : (place : ℕ) → T (test (fieldChecks column bolts face) place)
   unfolding fieldCheck
-  field number = all-hold (fieldsOf joint) found (number - 1)
+  held = all-hold AllInRange Outside apart (fieldChecks column bolts face) found
 
-  lever : (row : ℕ) → row < length (joint .face .levers) → Within (levers (joint .face .rows) row) (getD (joint .face .levers) row 0)
-  unfolding fieldCheck fieldsOf fixedFields
+  field : (number : ℕ) → T (test (fieldChecks column bolts face) (number - 1))
+  field number = held (number - 1)
+
+  lever : (row : ℕ) → row < length (face .levers) → Within (levers (face .rows) row) (getD (face .levers) row 0)
+  unfolding fieldChecks fixedChecks
   lever row h =
-      let n = joint .face .rows in
-      let hs = joint .face .levers in
-      within-yes (levers n row) (getD hs row 0)
-      (subst (λ (b : Bool). T b)
-      (ap (λ (field : Field). field .1) (getD-append-add (fixedFields joint) (leverFields n 0 hs) row (0, true)) ∙ lever-test n 0 hs row h ∙ ap (λ (i : ℕ). within (levers n i) (getD hs row 0)) (zero-add row))
-      (all-hold (fieldsOf joint) found (29 + row)))
+      let n = face .rows in
+      let hs = face .levers in
+      let after-fixed = getD-append-add (fixedChecks column bolts face) (leverChecks n 0 hs) row (0, true) in
+      let test-at : test (fieldChecks column bolts face) (29 + row) ≡ within (levers n row) (getD hs row 0) =
+          ap (λ (check : Check). check .1) after-fixed ∙ lever-test n 0 hs row h
+          ∙ ap (λ (i : ℕ). within (levers n i) (getD hs row 0)) (zero-add row) in
+      within-yes (levers n row) (getD hs row 0) (subst (λ (b : Bool). T b) test-at (held (29 + row)))
 
-  pub in-range : InRange joint
-  unfolding fieldsOf fixedFields
+  pub in-range : InRange column bolts face
+  unfolding fieldChecks fixedChecks
   in-range =
-      let column = joint .column in
-      let face = joint .face in
       let beam = face .beam in
       let plate = face .plate in
       let layout = face .layout in

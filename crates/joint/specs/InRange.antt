@@ -1,4 +1,4 @@
--- A joint whose fields are all in document 01's ranges, part by part and by name: what every crate above requires of it.
+-- Fields that are all in document 01's ranges, part by part and by name: what every crate above requires of them.
 -- Assumes nothing.
 use Prim.Native.Nat.{ℕ, _<_}
 use lib.Dec.{T}
@@ -6,8 +6,8 @@ use lib.IntN.{natAbs}
 use lib.ListN.{length, getD}
 use Rattle.arithmetic.specs.Range.{Within}
 use Rattle.arithmetic.specs.Table.{oneOf}
-use Rattle.joint.specs.Ranges.{rowCounts, flags, classes, diameters, grades, depths, widths, flanges, webs, radii, clears, plateWidths, thicknesses, gauges, edges, alphas, legs, weldLengths, shearRowCounts, loads, levers}
-use Rattle.joint.specs.declared.Joint.{Joint}
+use Rattle.joint.specs.Ranges.{rowCounts, flags, classes, diameters, grades, depths, widths, flanges, webs, radii, clears}
+use Rattle.joint.specs.Ranges.{plateWidths, thicknesses, gauges, edges, alphas, legs, weldLengths, shearRowCounts, loads, levers}
 use Rattle.joint.specs.declared.Column.{Column}
 use Rattle.joint.specs.declared.Bolts.{Bolts}
 use Rattle.joint.specs.declared.Beam.{Beam}
@@ -69,7 +69,8 @@ pub record FaceInRange (face : Face) : Type 0 where
   -- rows count from 0; past row n the range is 0 alone
   pub lever : (row : ℕ) → row < length (face .levers) → Within (levers (face .rows) row) (getD (face .levers) row 0)
 
-pub record InRange (joint : Joint) : Type 0 where
-  pub column : ColumnInRange (joint .column)
-  pub bolts : BoltsInRange (joint .bolts)
-  pub face : FaceInRange (joint .face)
+-- a column, its bolts and one face of it
+pub record InRange (c : Column) (b : Bolts) (f : Face) : Type 0 where
+  pub column : ColumnInRange c
+  pub bolts : BoltsInRange b
+  pub face : FaceInRange f

@@ -2,12 +2,13 @@
 // face would share. Each comment gives document 01's field number and unit; lengths are in tenths of a millimetre.
 ghost use mathlib.Core.Path.{_≡_};
 ghost use mathlib.Core.Bool.{cond};
-ghost use mathlib.Core.List.{[], _∷_};
 ghost use Rattle.arithmetic.specs.Range.{within, _to_};
 ghost use Rattle.arithmetic.specs.Table.{oneOf};
-ghost use Rattle.joint.specs.Ranges.{grades};
+ghost use Rattle.joint.specs.Ranges.{rowCounts, grades};
 ghost use Rattle.joint.specs.Axial.{axialForce};
-ghost use Rattle.joint.specs.Fields.{fieldCheck, firstOutside, after, headFields, gradeFields, columnFields, beamFields, plateFields, weldFields, loadFields, leverFields};
+ghost use Rattle.joint.specs.Fields.{fieldCheck, headChecks, gradeChecks, columnChecks, beamChecks};
+ghost use Rattle.joint.specs.Fields.{plateChecks, weldChecks, loadChecks, leverChecks};
+ghost use Rattle.joint.specs.Steps.{foundBy, Adds};
 
 // Fields 5 and 8 to 13.
 pub struct Column {
@@ -135,46 +136,52 @@ pub enum FieldCheck {
     Outside(u32),
 }
 
-// Checks every field of a joint, in file order, and stops after the first part of it in which one fails.
-pub fn check_fields(joint: Joint) -> FieldCheck
-    ensures { λ r. ⌜ r ≡ fieldCheck joint ⌝ }
+// Checks every field of a joint with one beam, in file order, and stops after the first part of them in which one fails.
+pub fn check_fields(column: Column, bolts: Bolts, face: Face) -> FieldCheck
+    ensures { λ r. ⌜ r ≡ fieldCheck column bolts face ⌝ }
 {
-    let face = joint.face;
     let levers = face.levers;
-    let head = check_head(face.rows, face.extended, joint.bolts);
-    let FieldCheck::AllInRange = head else {
-        return head;
+    let head_check = check_head(face.rows, face.extended, bolts);
+    let FieldCheck::AllInRange = head_check else {
+        return head_check;
     };
-    let grades = check_grades(joint.column.grade, face.beam.grade, face.plate.grade);
-    let FieldCheck::AllInRange = grades else {
-        return grades;
+    let grade_check = check_grades(column.grade, face.beam.grade, face.plate.grade);
+    let FieldCheck::AllInRange = grade_check else {
+        return grade_check;
     };
-    let column = check_column(joint.column);
-    let FieldCheck::AllInRange = column else {
-        return column;
+    let column_check = check_column(column);
+    let FieldCheck::AllInRange = column_check else {
+        return column_check;
     };
-    let beam = check_beam(face.beam);
-    let FieldCheck::AllInRange = beam else {
-        return beam;
+    let beam_check = check_beam(face.beam);
+    let FieldCheck::AllInRange = beam_check else {
+        return beam_check;
     };
-    let plate = check_plate(face.extended, face.plate, face.layout);
-    let FieldCheck::AllInRange = plate else {
-        return plate;
+    let plate_check = check_plate(face.extended, face.plate, face.layout);
+    let FieldCheck::AllInRange = plate_check else {
+        return plate_check;
     };
-    let welds = check_welds(face.welds, face.shear_rows);
-    let FieldCheck::AllInRange = welds else {
-        return welds;
+    let weld_check = check_welds(face.welds, face.shear_rows);
+    let FieldCheck::AllInRange = weld_check else {
+        return weld_check;
     };
-    let loads = check_loads(face.loads);
-    let FieldCheck::AllInRange = loads else {
-        return loads;
+    let load_check = check_loads(face.loads);
+    let FieldCheck::AllInRange = load_check else {
+        return load_check;
     };
     check_levers(face.rows, levers)
 }
 
+// Refusal 3's question: whether a joint may have so many rows.
+pub fn is_row_count(count: usize) -> bool
+    ensures { λ r. ⌜ r ≡ within rowCounts count ⌝ }
+{
+    (1 <= count) & (count <= 8)
+}
+
 // What was found before; else this field's number, unless it holds.
 fn keep(found: FieldCheck, number: u32, holds: bool) -> FieldCheck
-    ensures { λ r. ⌜ r ≡ after found ((number, holds) ∷ []) ⌝ }
+    ensures { λ r. ⌜ Adds found (number, holds) r ⌝ }
 {
     match found {
         FieldCheck::Outside(field) => FieldCheck::Outside(field),
@@ -190,21 +197,21 @@ fn keep(found: FieldCheck, number: u32, holds: bool) -> FieldCheck
 
 // A field that goes from low to high.
 fn ranged(found: FieldCheck, number: u32, value: u32, low: u32, high: u32) -> FieldCheck
-    ensures { λ r. ⌜ r ≡ after found ((number, within (low to high) value) ∷ []) ⌝ }
+    ensures { λ r. ⌜ Adds found (number, within (low to high) value) r ⌝ }
 {
     keep(found, number, (low <= value) & (value <= high))
 }
 
 // A field that is a steel grade.
 fn graded(found: FieldCheck, number: u32, grade: u32) -> FieldCheck
-    ensures { λ r. ⌜ r ≡ after found ((number, oneOf grades grade) ∷ []) ⌝ }
+    ensures { λ r. ⌜ Adds found (number, oneOf grades grade) r ⌝ }
 {
     keep(found, number, (grade == 275) | (grade == 355))
 }
 
 // Fields 1 to 4.
 fn check_head(rows: u32, extended: u32, bolts: Bolts) -> FieldCheck
-    ensures { λ r. ⌜ r ≡ firstOutside (headFields rows extended bolts) ⌝ }
+    ensures { λ r. ⌜ r ≡ foundBy (headChecks rows extended bolts) ⌝ }
 {
     let class = bolts.class;
     let d = bolts.diameter;
@@ -220,7 +227,7 @@ fn check_head(rows: u32, extended: u32, bolts: Bolts) -> FieldCheck
 
 // Fields 5 to 7.
 fn check_grades(column: u32, beam: u32, plate: u32) -> FieldCheck
-    ensures { λ r. ⌜ r ≡ firstOutside (gradeFields column beam plate) ⌝ }
+    ensures { λ r. ⌜ r ≡ foundBy (gradeChecks column beam plate) ⌝ }
 {
     let first = graded(FieldCheck::AllInRange, 5, column);
     graded(graded(first, 6, beam), 7, plate)
@@ -228,7 +235,7 @@ fn check_grades(column: u32, beam: u32, plate: u32) -> FieldCheck
 
 // Fields 8 to 13.
 fn check_column(column: Column) -> FieldCheck
-    ensures { λ r. ⌜ r ≡ firstOutside (columnFields column) ⌝ }
+    ensures { λ r. ⌜ r ≡ foundBy (columnChecks column) ⌝ }
 {
     let depth = ranged(FieldCheck::AllInRange, 8, column.depth, 1000, 15000);
     let width = ranged(depth, 9, column.width, 500, 6000);
@@ -240,7 +247,7 @@ fn check_column(column: Column) -> FieldCheck
 
 // Fields 14 to 17.
 fn check_beam(beam: Beam) -> FieldCheck
-    ensures { λ r. ⌜ r ≡ firstOutside (beamFields beam) ⌝ }
+    ensures { λ r. ⌜ r ≡ foundBy (beamChecks beam) ⌝ }
 {
     let depth = ranged(FieldCheck::AllInRange, 14, beam.depth, 1000, 15000);
     let width = ranged(depth, 15, beam.width, 500, 6000);
@@ -250,7 +257,7 @@ fn check_beam(beam: Beam) -> FieldCheck
 
 // Fields 18 to 22. The edge distance is 0 on a flush plate.
 fn check_plate(extended: u32, plate: Plate, layout: Layout) -> FieldCheck
-    ensures { λ r. ⌜ r ≡ firstOutside (plateFields extended plate layout) ⌝ }
+    ensures { λ r. ⌜ r ≡ foundBy (plateChecks extended plate layout) ⌝ }
 {
     let width = ranged(FieldCheck::AllInRange, 18, plate.width, 500, 6000);
     let thickness = ranged(width, 19, plate.thickness, 60, 500);
@@ -268,7 +275,7 @@ fn check_plate(extended: u32, plate: Plate, layout: Layout) -> FieldCheck
 
 // Fields 23 to 26.
 fn check_welds(welds: Welds, shear_rows: u32) -> FieldCheck
-    ensures { λ r. ⌜ r ≡ firstOutside (weldFields welds «shear_rows») ⌝ }
+    ensures { λ r. ⌜ r ≡ foundBy (weldChecks welds «shear_rows») ⌝ }
 {
     let flange = ranged(FieldCheck::AllInRange, 23, welds.flange, 30, 250);
     let web = ranged(flange, 24, welds.web, 30, 250);
@@ -278,7 +285,7 @@ fn check_welds(welds: Welds, shear_rows: u32) -> FieldCheck
 
 // Fields 27 to 29.
 fn check_loads(loads: Loads) -> FieldCheck
-    ensures { λ r. ⌜ r ≡ firstOutside (loadFields loads) ⌝ }
+    ensures { λ r. ⌜ r ≡ foundBy (loadChecks loads) ⌝ }
 {
     let n = loads.axial;
     let axial = keep(
@@ -292,7 +299,7 @@ fn check_loads(loads: Loads) -> FieldCheck
 
 // Fields 30 to 37: the levers of the rows, and the spare ones, which are 0.
 fn check_levers(rows: u32, levers: [u32; 8]) -> FieldCheck
-    ensures { λ r. ⌜ r ≡ firstOutside (leverFields rows 0 levers) ⌝ }
+    ensures { λ r. ⌜ r ≡ foundBy (leverChecks rows 0 levers) ⌝ }
 {
     let mut row: u32 = 0;
     while row < 8 {

@@ -1,73 +1,128 @@
--- Demand 3 of a joint's result: its forces are shared under the limits with the cap joined, so they are the best of the lists that
--- keep both (the theorems of `sharing`), and a larger moment carries what a smaller one does. Assumes nothing.
-use mathlib.Core.Path.{_≡_, sym, ap, _∙_}
+-- Demand 3 of the definition: a joint that isn't refused has it. Its forces are shared under the limits with the cap among them, so they
+-- are the best of the lists that keep both (the theorems of `sharing`), and a larger moment carries what a smaller one does.
+-- Assumes nothing.
+use mathlib.Core.Path.{_≡_, refl, sym, ap, _∙_}
+use mathlib.Core.Bool.{true, false}
 use Prim.Native.Nat.{ℕ, suc, _≤_}
 use native.Mathlib.Omega.{arith}
 use mathlib.Core.List.{List}
 use lib.ListN.{length}
 use lib.Seq.{length-take-le, getD-take}
+use lib.Dec.{leb→le, le→leb}
+use lib.IntN.{pos}
+use borrow.Author.Tests.{not-true}
+use Rattle.joint.specs.Fields.{fieldCheck}
 use Rattle.joint.specs.declared.Joint.{Joint}
-use Rattle.joint.proofs.InRange.{row-lever}
-use Rattle.sharing.specs.Groups.{withCap}
+use Rattle.joint.specs.declared.Column.{Column}
+use Rattle.joint.specs.declared.Bolts.{Bolts}
+use Rattle.joint.specs.declared.Face.{Face}
+use Rattle.joint.specs.declared.FieldCheck.{FieldCheck}
+use Rattle.joint.specs.declared.FieldCheck.the-variants.{AllInRange, Outside}
+use Rattle.joint.specs.InRange.{InRange}
+use Rattle.joint.proofs.InRange.{in-range, row-lever}
+use Rattle.sharing.specs.Groups.{Table, withCap}
 use Rattle.sharing.specs.Sharing.{Competes, Falling}
 use Rattle.sharing.specs.Best.{Best}
 use Rattle.sharing.proofs.Theorems.{best}
 use Rattle.sharing.proofs.Cap.{cap-is-a-limit}
 use Rattle.tension.specs.Admissible.{Admissible}
+use Rattle.governing.specs.Cap.{newtonsOf}
 use Rattle.verdicts.specs.Bending.{carries}
 use Rattle.verdicts.proofs.Signs.{carries-monotone}
-use Rattle.work.specs.Joint.{rowsOf, leversOf, limitOf, capOf, forcesOf, carriesOf}
-use Rattle.work.specs.Work.{resultOf}
-use Rattle.work.proofs.Forces.{rows-kept}
+use Rattle.outcome.specs.declared.Outcome.{Outcome}
+use Rattle.work.specs.OneFace.{rowsOf, leversOf, limitOf, capOf, forcesOf, carriesOf}
+use Rattle.work.specs.Work.{refusals, resultOf, workedFace, workedBy, worked}
 use Rattle.work.specs.Demand.{CompetesFor, Demand3, programsList}
+use Rattle.work.proofs.Forces.{rows-kept}
+use Rattle.work.proofs.Answers.{admissible, cap-newtons, refusal-is, passes}
 
-module _ (joint : Joint) (a : Admissible joint) (eight : length (joint .face .levers) ≡ 8) where
-  enough : rowsOf joint ≤ length (joint .face .levers)
+module _ (column : Column) (bolts : Bolts) (face : Face) (a : Admissible (record { column = column; bolts = bolts; face = face }))
+    (eight : length (face .levers) ≡ 8) (cap : capOf column face ≡ pos (newtonsOf (capOf column face))) where
+  n : ℕ
+  n = rowsOf face
+
+  -- the limits, and the same with the cap among them
+  limit : Table
+  limit = limitOf column bolts face
+
+  capped : Table
+  capped = withCap (limitOf column bolts face) (rowsOf face) (newtonsOf (capOf column face))
+
+  enough : rowsOf face ≤ length (face .levers)
   enough = omega (arith, eight, a .in-range .face .rows .high)
 
-  falling : Falling (leversOf joint) (rowsOf joint)
+  falling : Falling (leversOf face) (rowsOf face)
   falling =
-      let n = rowsOf joint in
-      let levers = joint .face .levers in
+      let levers = face .levers in
+      let inside = getD-take (rowsOf face) levers in
       record {
-        rows = length-take-le n levers enough;
-        falls = λ k h. rw (getD-take n levers (suc k) 0 h, getD-take n levers k 0 (omega arith)) (a .falls k h);
-        positive = λ k h. rw (getD-take n levers k 0 h) (row-lever (joint .face) (a .in-range .face) k h (omega (arith, enough)) .low);
+        rows = length-take-le (rowsOf face) levers enough;
+        falls = λ k h. rw (inside (suc k) 0 h, inside k 0 (omega arith)) (a .falls k h);
+        positive = λ k h. rw (inside k 0 h) (row-lever face (a .in-range .face) k h (omega (arith, enough)) .low);
       }
 
-  forces-best : Best (withCap (limitOf joint) (rowsOf joint) (capOf joint)) (rowsOf joint) (forcesOf joint)
-  unfolding forcesOf
-  forces-best = best (withCap (limitOf joint) (rowsOf joint) (capOf joint)) (rowsOf joint)
+  -- a list competes under the limits with the cap exactly when it keeps the limits and the cap
+  under : (other : List ℕ) → CompetesFor column bolts face other → Competes capped (rowsOf face) other
+  unfolding capped
+  under other c =
+      let kept = rw cap at (c .capped) in
+      cap-is-a-limit (limitOf column bolts face) (rowsOf face) (newtonsOf (capOf column face)) other .1 (c .limits, leb→le _ _ (kept .le))
 
-  -- a list competes under the joined limits exactly when it keeps the limits and the cap
-  under : (other : List ℕ) → CompetesFor joint other → Competes (withCap (limitOf joint) (rowsOf joint) (capOf joint)) (rowsOf joint) other
-  under other c = cap-is-a-limit (limitOf joint) (rowsOf joint) (capOf joint) other .1 (c .limits, c .capped)
-
-  over : (other : List ℕ) → Competes (withCap (limitOf joint) (rowsOf joint) (capOf joint)) (rowsOf joint) other → CompetesFor joint other
+  over : (other : List ℕ) → Competes capped (rowsOf face) other → CompetesFor column bolts face other
+  unfolding capped
   over other c =
-      let both = cap-is-a-limit (limitOf joint) (rowsOf joint) (capOf joint) other .0 c in
-      record { limits = both .0; capped = both .1 }
+      let both = cap-is-a-limit (limitOf column bolts face) (rowsOf face) (newtonsOf (capOf column face)) other .0 c in
+      record { limits = both .0; capped = rw cap (record { le = le→leb _ _ (both .1) }) }
 
   -- the program's list is the forces
-  listed : programsList joint (resultOf joint) ≡ forcesOf joint
+  own : programsList face (resultOf column bolts face .forces) ≡ forcesOf column bolts face
   unfolding resultOf forcesOf
-  listed = rows-kept (rowsOf joint) (withCap (limitOf joint) (rowsOf joint) (capOf joint))
+  own = rows-kept (rowsOf face) (withCap (limitOf column bolts face) (rowsOf face) (newtonsOf (capOf column face)))
 
-  of-forces : (forces : List ℕ) → forcesOf joint ≡ forces → Best (withCap (limitOf joint) (rowsOf joint) (capOf joint)) (rowsOf joint) forces
-  of-forces forces e = rw e at forces-best
+  of-forces : (forces : List ℕ) → forcesOf column bolts face ≡ forces → Best capped (rowsOf face) forces
+  unfolding forcesOf capped
+  of-forces forces e = rw e at (best capped (rowsOf face))
 
-  pub demand : Demand3 joint (resultOf joint)
+  demand : Demand3 column bolts face (resultOf column bolts face .forces) (resultOf column bolts face .verdicts .bending)
   unfolding resultOf
   demand =
-      let b = of-forces (programsList joint (resultOf joint)) (sym listed) in
-      let fails = b .fails (leversOf joint) falling (carries (joint .face .loads) (joint .face .beam)) (carries-monotone _ _) in
-      let own : carriesOf joint (programsList joint (resultOf joint)) ≡ carriesOf joint (forcesOf joint) = ap (carriesOf joint) listed in
+      let list = programsList face (resultOf column bolts face .forces) in
+      let b = of-forces list (sym own) in
+      let fails = b .fails (leversOf face) falling (carries (face .loads) (face .beam)) (carries-monotone _ _) in
+      let same : carriesOf face list ≡ carriesOf face (forcesOf column bolts face) = ap (carriesOf face) own in
       record {
         competes = over _ (b .competes);
         sums = λ other c. b .sums other (under other c);
-        same = λ other c. b .same (leversOf joint) falling other (under other c);
-        bending = (
-          (λ fail other c. fails .0 (own ∙ fail) other (under other c)),
-          (λ all. sym own ∙ fails .1 (λ other c. all other (over other c))),
+        same = λ other c. b .same (leversOf face) falling other (under other c);
+        fails-in-bending = (
+          (λ fail other c. fails .0 (same ∙ fail) other (under other c)),
+          (λ all. sym same ∙ fails .1 (λ other c. all other (over other c))),
         );
       }
+
+-- a face that no refusal turns down
+of-face : (column : Column) (bolts : Bolts) (face : Face) → InRange (record { column = column; bolts = bolts; face = face })
+    → length (face .levers) ≡ 8 → (answer : Outcome) → workedFace column bolts face ≡ answer → answer .refusal .number ≡ 0
+    → Demand3 column bolts face (answer .result .forces) (answer .result .verdicts .bending)
+unfolding workedFace refusals capOf
+of-face column bolts face r eight answer e none =
+    let p11 = passes 10 _ _ _ answer e none in
+    let p12 = passes 11 _ _ _ answer (p11 .1) none in
+    let p13 = passes 12 _ _ _ answer (p12 .1) none in
+    let p14 = passes 13 _ _ _ answer (p13 .1) none in
+    let p15 = passes 14 _ _ _ answer (p14 .1) none in
+    let a = admissible (record { column = column; bolts = bolts; face = face }) r eight (p11 .0) (not-true _ (p13 .0)) in
+    rw (sym (p15 .1)) (demand column bolts face a eight (cap-newtons _ _ (not-true _ (p15 .0))))
+
+-- Demand 3: for every joint whose answer is no refusal. A joint in the machine has eight levers.
+pub worked-demand : (joint : Joint) → length (joint .face .levers) ≡ 8 → (answer : Outcome) → worked joint ≡ answer
+    → answer .refusal .number ≡ 0
+    → Demand3 (joint .column) (joint .bolts) (joint .face) (answer .result .forces) (answer .result .verdicts .bending)
+unfolding worked
+worked-demand joint eight answer e none = by-fields (fieldCheck joint) refl e
+  where
+    by-fields : (found : FieldCheck) → fieldCheck joint ≡ found
+        → workedBy found (workedFace (joint .column) (joint .bolts) (joint .face)) ≡ answer
+        → Demand3 (joint .column) (joint .bolts) (joint .face) (answer .result .forces) (answer .result .verdicts .bending)
+    by-fields AllInRange f w = of-face (joint .column) (joint .bolts) (joint .face) (in-range joint f) eight answer w none
+    by-fields (Outside field) f w = let never = refusal-is 10 field answer w none in absurd (omega arith)

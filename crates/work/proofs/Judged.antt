@@ -1,4 +1,4 @@
--- The verdicts on a joint's own forces, from what the code counts of its eight places.
+-- The verdicts on a face's own forces, from what the code counts of their eight places.
 -- Assumes nothing.
 use mathlib.Core.Path.{_≡_, refl, ap, ap₂, _∙_}
 use mathlib.Core.Bool.{cond}
@@ -7,7 +7,9 @@ use native.Mathlib.Omega.{arith}
 use mathlib.Core.List.{List, [], _∷_, _++_}
 use lib.ListN.{length, take, replicate}
 use lib.Dec.{leb, eqb}
-use Rattle.joint.specs.declared.Joint.{Joint}
+use Rattle.joint.specs.declared.Column.{Column}
+use Rattle.joint.specs.declared.Bolts.{Bolts}
+use Rattle.joint.specs.declared.Face.{Face}
 use Rattle.sharing.specs.Groups.{total, withCap}
 use Rattle.sharing.proofs.Theorems.{best}
 use Rattle.allocation.specs.Allocation.{eightPlaces}
@@ -15,7 +17,8 @@ use Rattle.verdicts.specs.Tally.{pullingRows}
 use Rattle.verdicts.specs.Bolts.{idlePair, pullingPair, boltsPass}
 use Rattle.verdicts.specs.Welds.{topRows}
 use Rattle.verdicts.proofs.Tallying.{pulling-le-length, total-by-kind}
-use Rattle.work.specs.Joint.{rowsOf, limitOf, capOf, forcesOf}
+use Rattle.governing.specs.Cap.{newtonsOf}
+use Rattle.work.specs.OneFace.{rowsOf, limitOf, capOf, forcesOf}
 
 -- places that are 0 add nothing to a sum from the top
 top-zeros : (k m : ℕ) → total (take k (replicate m 0)) ≡ 0
@@ -32,22 +35,21 @@ pub top-judged : (extended : ℕ) (forces : List ℕ) → topRows extended (eigh
 unfolding topRows eightPlaces
 top-judged extended forces = top-of-places (cond (eqb extended 0) 2 3) (8 - length forces) forces
 
-module _ (joint : Joint) where
-  row-count : length (forcesOf joint) ≡ rowsOf joint
+module _ (column : Column) (bolts : Bolts) (face : Face) where
+  row-count : length (forcesOf column bolts face) ≡ rowsOf face
   unfolding forcesOf
-  row-count = best (withCap (limitOf joint) (rowsOf joint) (capOf joint)) (rowsOf joint) .competes .rows
+  row-count = best (withCap (limitOf column bolts face) (rowsOf face) (newtonsOf (capOf column face))) (rowsOf face) .competes .rows
 
-  pub pulling-le : pullingRows (forcesOf joint) ≤ rowsOf joint
-  pulling-le = omega (arith, pulling-le-length (forcesOf joint), row-count)
+  pub pulling-le : pullingRows (forcesOf column bolts face) ≤ rowsOf face
+  pulling-le = omega (arith, pulling-le-length (forcesOf column bolts face), row-count)
 
-  pub bolts-judged : (pulling idle : ℕ) → pulling ≡ pullingRows (forcesOf joint) → idle ≡ rowsOf joint + joint .face .«shear_rows» - pulling
-      → leb (joint .face .loads .shear)
-      (pulling * pullingPair (joint .bolts) (joint .column) (joint .face .plate) + idle * idlePair (joint .bolts) (joint .column) (joint .face .plate))
-      ≡ boltsPass (joint .bolts) (joint .column) (joint .face .plate) (joint .face .«shear_rows») (joint .face .loads .shear) (forcesOf joint)
+  pub bolts-judged : (pulling idle : ℕ) → pulling ≡ pullingRows (forcesOf column bolts face) → idle ≡ rowsOf face + face .«shear_rows» - pulling
+      → leb (face .loads .shear) (pulling * pullingPair bolts column (face .plate) + idle * idlePair bolts column (face .plate))
+      ≡ boltsPass bolts column (face .plate) (face .«shear_rows») (face .loads .shear) (forcesOf column bolts face)
   unfolding boltsPass
   bolts-judged pulling idle ep ei =
-      let others : idle ≡ length (forcesOf joint) - pullingRows (forcesOf joint) + joint .face .«shear_rows»
-      = omega (arith, row-count, pulling-le, ep, ei) in
-      ap (leb (joint .face .loads .shear))
-      (ap₂ (λ p i. p * pullingPair (joint .bolts) (joint .column) (joint .face .plate) + i * idlePair (joint .bolts) (joint .column) (joint .face .plate)) ep others
-      ∙ total-by-kind (joint .bolts) (joint .column) (joint .face .plate) (joint .face .«shear_rows») (forcesOf joint))
+      let forces = forcesOf column bolts face in
+      let others : idle ≡ length forces - pullingRows forces + face .«shear_rows» = omega (arith, row-count, pulling-le, ep, ei) in
+      ap (leb (face .loads .shear))
+      (ap₂ (λ p i. p * pullingPair bolts column (face .plate) + i * idlePair bolts column (face .plate)) ep others
+      ∙ total-by-kind bolts column (face .plate) (face .«shear_rows») forces)

@@ -1,36 +1,39 @@
--- Demand 3: the row forces that Work answers are the best that the joint's limits and cap allow.
--- Assumes nothing.
+-- Demand 3: the row forces that Work answers are the best that the limits and the cap of a face allow. Assumes nothing.
 use mathlib.Core.Path.{_≡_}
 use mathlib.Core.Logic.{_↔_}
-use mathlib.Core.Bool.{false}
+use mathlib.Core.Bool.{Bool, false}
 use Prim.Native.Nat.{ℕ, _≤_}
 use mathlib.Core.List.{List}
 use lib.ListN.{take}
-use Rattle.joint.specs.declared.Joint.{Joint}
+use lib.IntN.{pos}
+use lib.Signed.{_≤ℤ_}
+use Rattle.joint.specs.declared.Column.{Column}
+use Rattle.joint.specs.declared.Bolts.{Bolts}
+use Rattle.joint.specs.declared.Face.{Face}
 use Rattle.sharing.specs.Groups.{total}
 use Rattle.sharing.specs.Sharing.{Competes}
-use Rattle.work.specs.Joint.{rowsOf, limitOf, capOf, momentOf, carriesOf}
-use Rattle.outcome.specs.declared.Outcome.{Outcome}
+use Rattle.work.specs.OneFace.{rowsOf, limitOf, capOf, momentOf, carriesOf}
 
 -- 'A list competes when it has one force for each row, in whole newtons, none below zero; when for every group i to j its forces on
 -- rows i to j add up to at most that group's limit, before any lowering; and when all its forces add up to at most the cap.'
-pub record CompetesFor (joint : Joint) (forces : List ℕ) : Type 0 where
-  pub limits : Competes (limitOf joint) (rowsOf joint) forces
-  pub capped : total forces ≤ capOf joint
+pub record CompetesFor (column : Column) (bolts : Bolts) (face : Face) (forces : List ℕ) : Type 0 where
+  pub limits : Competes (limitOf column bolts face) (rowsOf face) forces
+  pub capped : pos (total forces) ≤ℤ capOf column face
 
--- 'The program's list is the forces that Work answers for the joint's rows.'
-abbrev pub programsList : Joint → Outcome → List ℕ
-programsList joint outcome = take (rowsOf joint) (outcome .forces)
+-- 'The program's list is the forces that Work answers for the joint's rows': of the answer's eight places the first, one for each row.
+abbrev pub programsList : Face → (places : List ℕ) → List ℕ
+programsList face places = take (rowsOf face) places
 
-pub record Demand3 (joint : Joint) (outcome : Outcome) : Type 0 where
+-- Demand 3 of an answer for a face: its eight places for forces, and its verdict on bending.
+pub record Demand3 (column : Column) (bolts : Bolts) (face : Face) (places : List ℕ) (bending : Bool) : Type 0 where
   -- the program's list competes
-  pub competes : CompetesFor joint (programsList joint outcome)
+  pub competes : CompetesFor column bolts face (programsList face places)
   -- for whatever list competes, the sum from the top row down to any row is at most the program's
-  pub sums : (other : List ℕ) → CompetesFor joint other → (row : ℕ)
-      → total (take row other) ≤ total (take row (programsList joint outcome))
+  pub sums : (other : List ℕ) → CompetesFor column bolts face other → (row : ℕ)
+      → total (take row other) ≤ total (take row (programsList face places))
   -- the list equals the program's exactly when the unrounded moments Z are equal
-  pub same : (other : List ℕ) → CompetesFor joint other
-      → (other ≡ programsList joint outcome) ↔ (momentOf joint other ≡ momentOf joint (programsList joint outcome))
+  pub same : (other : List ℕ) → CompetesFor column bolts face other
+      → (other ≡ programsList face places) ↔ (momentOf face other ≡ momentOf face (programsList face places))
   -- the joint fails in bending exactly when no competing list carries the design moment with the design axial force
-  pub bending : (outcome .verdicts .bending ≡ false)
-      ↔ ((other : List ℕ) → CompetesFor joint other → carriesOf joint other ≡ false)
+  pub fails-in-bending : (bending ≡ false)
+      ↔ ((other : List ℕ) → CompetesFor column bolts face other → carriesOf face other ≡ false)

@@ -1,4 +1,6 @@
--- A joint's figures put together, Work's refusals in their order, and demand 3.
-pub mod Joint
+-- Document 01's: what a face comes to (`OneFace`), Work's refusals in their order and its answer (`Work`), demand 3 (`Demand`).
+-- For the code: what its steps hand on (`Steps`).
+pub mod OneFace
 pub mod Work
 pub mod Demand
+pub mod Steps

@@ -1,12 +1,16 @@
--- Working a joint (document 01, 'Work'): the refusals in their order, and else the whole result.
--- Assumes nothing.
+-- Working a joint (document 01, 'Work'): the refusals in their order, and else the whole result. Assumes nothing.
 use Prim.Native.Nat.{ℕ}
-use mathlib.Core.Bool.{false, cond, not}
-use lib.Dec.{eqb}
+use mathlib.Core.Bool.{false, not}
+use mathlib.Core.List.{List, [], _∷_}
 use lib.ListN.{replicate}
-use Rattle.joint.specs.Fields.{fieldCheck, refusalOf, fieldOf}
+use Rattle.arithmetic.specs.Checks.{Check, firstFailing}
+use Rattle.joint.specs.Fields.{fieldCheck}
 use Rattle.joint.specs.declared.Joint.{Joint}
+use Rattle.joint.specs.declared.Column.{Column}
+use Rattle.joint.specs.declared.Bolts.{Bolts}
+use Rattle.joint.specs.declared.Face.{Face}
 use Rattle.joint.specs.declared.FieldCheck.{FieldCheck}
+use Rattle.joint.specs.declared.FieldCheck.the-variants.{AllInRange, Outside}
 use Rattle.sharing.specs.Groups.{total}
 use Rattle.sharing.specs.Sharing.{newtonMetres}
 use Rattle.allocation.specs.Allocation.{eightPlaces}
@@ -14,62 +18,65 @@ use Rattle.strength.specs.Bolt.{boltStrengths}
 use Rattle.strength.specs.Thickness.{bothTooThick}
 use Rattle.spacing.specs.Spacing.{spacingOf}
 use Rattle.governing.specs.Governing.{forceOf}
+use Rattle.governing.specs.Cap.{overCompressed, newtonsOf}
 use Rattle.governing.specs.declared.CompressionCheck.the-variants.{Flange}
-use Rattle.refusals.specs.Refusals.{leversFall, rowsInPlace, tooTight, overCompressed}
-use Rattle.work.specs.Joint.{steelOf, governingOf, capOf, forcesOf, momentOf, verdictsOf}
+use Rattle.refusals.specs.Refusals.{leversFall, rowsInPlace, tooTight}
+use Rattle.work.specs.OneFace.{steelOf, governingOf, capOf, forcesOf, momentOf, verdictsOf}
+use Rattle.outcome.specs.declared.FaceResult.{FaceResult}
 use Rattle.outcome.specs.declared.Outcome.{Outcome}
 
 -- 'In a refusal forces, sum, newton metres, cap and governing force are 0, the check named is F, verdicts are no, and the field
 -- number is 0 but for 10.'
 abbrev pub refusedBy : (number field : ℕ) → Outcome
 refusedBy number field = record {
-  refusal = number;
-  field = field;
-  forces = replicate 8 0;
-  sum = 0;
-  «newton_metres» = 0;
-  cap = 0;
-  check = Flange 0;
-  verdicts = record { bending = false; bolts = false; «flange_weld» = false; «web_weld» = false };
+  refusal = record { number = number; field = field };
+  result = record {
+    forces = replicate 8 0;
+    sum = 0;
+    «newton_metres» = 0;
+    cap = 0;
+    check = Flange 0;
+    verdicts = record { bending = false; bolts = false; «flange_weld» = false; «web_weld» = false };
+  };
 }
 
--- The whole result of a joint that isn't refused.
-unfoldable pub resultOf : Joint → Outcome
-resultOf joint =
-    let forces = forcesOf joint in
+-- 'Tried in this order', after 10: each number with the test that lets a face pass.
+unfoldable pub refusals : Column → Bolts → Face → List Check
+refusals column bolts face =
+    (11, leversFall face)
+    ∷ (12, rowsInPlace face)
+    ∷ (13, not (tooTight (face .extended) (spacingOf column face)))
+    ∷ (14, not (bothTooThick column (face .plate) bolts (steelOf column face) (boltStrengths bolts)))
+    ∷ (15, not (overCompressed (face .loads) (forceOf (governingOf column face))))
+    ∷ []
+
+-- The whole result of a face that isn't refused.
+unfoldable pub resultOf : Column → Bolts → Face → FaceResult
+resultOf column bolts face =
+    let forces = forcesOf column bolts face in
     record {
-      refusal = 0;
-      field = 0;
       forces = eightPlaces forces;
       sum = total forces;
-      «newton_metres» = newtonMetres (momentOf joint forces);
-      cap = capOf joint;
-      check = governingOf joint;
-      verdicts = verdictsOf joint forces;
+      «newton_metres» = newtonMetres (momentOf face forces);
+      cap = newtonsOf (capOf column face);
+      check = governingOf column face;
+      verdicts = verdictsOf column bolts face forces;
     }
 
--- 14 and 15
-unfoldable pub fromThickness : Joint → Outcome
-unfolding resultOf
-fromThickness joint =
-    cond (bothTooThick (joint .column) (joint .face .plate) (joint .bolts) (steelOf joint) (boltStrengths (joint .bolts))) (refusedBy 14 0)
-    (cond (overCompressed (joint .face .loads) (forceOf (governingOf joint))) (refusedBy 15 0)
-    (resultOf joint))
+abbrev pub completed : FaceResult → Outcome
+completed result = record { refusal = record { number = 0; field = 0 }; result = result }
 
--- 11, 12 and 13
-unfoldable pub fromLevers : Joint → Outcome
-unfolding fromThickness
-fromLevers joint =
-    cond (not (leversFall (joint .face))) (refusedBy 11 0)
-    (cond (not (rowsInPlace (joint .face))) (refusedBy 12 0)
-    (cond (tooTight (joint .face .extended) (spacingOf (joint .column) (joint .face))) (refusedBy 13 0)
-    (fromThickness joint)))
+-- A face whose fields are in range: the first refusal whose test fails, and else the result.
+unfoldable pub workedFace : Column → Bolts → Face → Outcome
+unfolding refusals resultOf
+workedFace column bolts face =
+    firstFailing (completed (resultOf column bolts face)) (λ number. refusedBy number 0) (refusals column bolts face)
 
--- 10 'with the first such field's number'
-abbrev pub afterFields : FieldCheck → Outcome → Outcome
-afterFields found outcome = cond (eqb (refusalOf found) 0) outcome (refusedBy (refusalOf found) (fieldOf found))
+-- '10 a field out of range, with the first such field's number'; then the face.
+abbrev pub workedBy : FieldCheck → Outcome → Outcome
+workedBy AllInRange outcome = outcome
+workedBy (Outside field) outcome = refusedBy 10 field
 
--- 'Tried in this order'
 unfoldable pub worked : Joint → Outcome
-unfolding fromLevers
-worked joint = afterFields (fieldCheck joint) (fromLevers joint)
+unfolding workedFace
+worked joint = workedBy (fieldCheck joint) (workedFace (joint .column) (joint .bolts) (joint .face))

@@ -2,38 +2,60 @@
 // verdicts. Rows count from 0.
 ghost use mathlib.Core.Path.{_≡_};
 ghost use Prim.Native.Nat.{ℕ, _≤_};
-ghost use lib.ListN.{getD};
+ghost use lib.ListN.{length, getD, take, drop};
+ghost use Rattle.arithmetic.specs.Checks.{firstFailing};
 ghost use Rattle.joint.specs.InRange.{InRange};
-ghost use Rattle.strength.specs.Bolt.{boltStrengths};
+ghost use Rattle.compression.specs.Compression.{PartsInRange, mostBearing};
+ghost use Rattle.governing.specs.Governing.{forceOf};
 ghost use Rattle.sharing.specs.Groups.{withCap};
 ghost use Rattle.sharing.specs.Sharing.{shared};
 ghost use Rattle.allocation.specs.Allocation.{eightPlaces};
-ghost use Rattle.spacing.specs.Spacing.{spacingOf};
-ghost use Rattle.tension.specs.Admissible.{Admissible, Measured};
-ghost use Rattle.verdicts.specs.Tally.{tallyOf};
-ghost use Rattle.work.specs.Joint.{rowsOf, leversOf, limitOf, steelOf, governingOf, capOf, forcesOf, verdictsOf};
-ghost use Rattle.work.specs.Work.{refusedBy, resultOf, fromThickness, fromLevers, worked};
+ghost use Rattle.work.specs.OneFace.{rowsOf, limitOf, steelOf, governingOf, forcesOf, verdictsOf};
+ghost use Rattle.work.specs.Work.{refusedBy, refusals, resultOf, completed, workedFace, worked};
 ghost use Rattle.work.specs.Demand.{Demand3};
+ghost use Rattle.work.specs.Steps.{measuresOf, Measured, Capped, Tallied};
+ghost use Rattle.work.specs.declared.Admission.the-variants.{Admitted, Refused};
 use arithmetic::least;
+use governing::Cap;
 use governing::CompressionCheck;
+use joint::Bolts;
+use joint::Column;
+use joint::Face;
 use joint::FieldCheck;
 use joint::Joint;
+use outcome::FaceResult;
 use outcome::Outcome;
+use outcome::Refusal;
 use outcome::Verdicts;
-use refusals::Cap;
 use spacing::Spacing;
 use strength::BoltStrengths;
 use strength::SteelStrengths;
 use verdicts::Tally;
 
+// What is measured of a face before it is admitted: distances about its bolts, and strengths.
+pub struct Measures {
+    pub spacing: Spacing,
+    pub steel: SteelStrengths,
+    pub bolt: BoltStrengths,
+}
+
+// Whether a face passes refusals 11 to 14, or the number of the first that it doesn't.
+pub enum Admission {
+    Admitted,
+    Refused(u32),
+}
+
+// Works any joint: the whole result, or the refusal that document 01's order comes to first. The row forces are the best there are:
+// demand 3, in specs/Demand.antt.
 pub fn work(joint: Joint) -> Outcome
     ensures equals { λ r. ⌜ r ≡ worked joint ⌝ }
-    ensures demand { λ r. ⌜ (r .refusal ≡ 0 → Demand3 joint r) ⌝ }
+    ensures demand { λ r. ⌜ (r .refusal .number ≡ 0 → Demand3 (joint .column) (joint .bolts) (joint .face) (r .result .forces) (r .result .verdicts .bending)) ⌝ }
 {
+    let face = joint.face;
     let found = joint::check_fields(joint);
     match found {
         FieldCheck::Outside(field) => refused(10, field),
-        FieldCheck::AllInRange => work_levers(joint),
+        FieldCheck::AllInRange => work_face(joint.column, joint.bolts, face),
     }
 }
 
@@ -41,130 +63,163 @@ fn refused(number: u32, field: u32) -> Outcome
     ensures { λ r. ⌜ r ≡ refusedBy number field ⌝ }
 {
     Outcome {
-        refusal: number,
-        field,
-        forces: [0; 8],
-        sum: 0,
-        newton_metres: 0,
-        cap: 0,
-        check: CompressionCheck::Flange(0),
-        verdicts: Verdicts {
-            bending: false,
-            bolts: false,
-            flange_weld: false,
-            web_weld: false,
+        refusal: Refusal { number, field },
+        result: FaceResult {
+            forces: [0; 8],
+            sum: 0,
+            newton_metres: 0,
+            cap: 0,
+            check: CompressionCheck::Flange(0),
+            verdicts: Verdicts {
+                bending: false,
+                bolts: false,
+                flange_weld: false,
+                web_weld: false,
+            },
         },
     }
 }
 
-// A joint whose fields are in range: refusals 11, 12 and 13 come next.
-fn work_levers(joint: Joint) -> Outcome
-    requires { ⌜ InRange joint ⌝ }
-    ensures equals { λ r. ⌜ r ≡ fromLevers joint ⌝ }
-    ensures demand { λ r. ⌜ (r .refusal ≡ 0 → Demand3 joint r) ⌝ }
+// A face whose fields are in range. (A list of eight levers has eight: said for the caller's sake.)
+fn work_face(column: Column, bolts: Bolts, face: Face) -> Outcome
+    requires { ⌜ InRange (record { column = column; bolts = bolts; face = face }) ⌝ }
+    ensures { λ r. ⌜ (r ≡ workedFace column bolts face) × (length (face .levers) ≡ 8) ⌝ }
 {
-    let face = joint.face;
-    let levers = face.levers;
-    if !refusals::levers_fall(face.rows as usize, levers) {
-        return refused(11, 0);
+    let measures = measures_of(column, bolts, face);
+    let admission = admit(column, bolts, face, measures);
+    match admission {
+        Admission::Refused(number) => refused(number, 0),
+        Admission::Admitted => work_admitted(column, bolts, face, measures),
     }
-    if !refusals::rows_in_place(face) {
-        return refused(12, 0);
-    }
-    let spacing = spacing::spacing_of(joint.column, face);
-    if refusals::too_tight(face.extended, spacing) {
-        return refused(13, 0);
-    }
-    work_thickness(joint, spacing)
 }
 
-// A joint that refusals 10 to 13 let pass: 14 and 15 come next.
-fn work_thickness(joint: Joint, spacing: Spacing) -> Outcome
-    requires { ⌜ Admissible joint ⌝ }
-    requires { ⌜ spacing ≡ spacingOf (joint .column) (joint .face) ⌝ }
-    ensures { λ r. ⌜ r ≡ fromThickness joint ⌝ }
+fn measures_of(column: Column, bolts: Bolts, face: Face) -> Measures
+    ensures { λ r. ⌜ r ≡ measuresOf column bolts face ⌝ }
 {
-    let column = joint.column;
-    let face = joint.face;
-    let steel = strength::steel_strengths(column, face.beam, face.plate);
-    let bolt = strength::bolt_strengths(joint.bolts);
-    if strength::both_too_thick(column, face.plate, joint.bolts, steel, bolt) {
-        return refused(14, 0);
+    Measures {
+        spacing: spacing::spacing_of(column, face),
+        steel: strength::steel_strengths(column, face.beam, face.plate),
+        bolt: strength::bolt_strengths(bolts),
     }
-    let check = compression::governing(steel, column, face.beam, face.plate, face.welds);
-    let capped = refusals::tension_cap(governing::force_of(check), face.loads);
+}
+
+// The first four refusals after 10.
+fn admit(column: Column, bolts: Bolts, face: Face, measures: Measures) -> Admission
+    requires { ⌜ InRange (record { column = column; bolts = bolts; face = face }) ⌝ }
+    requires { ⌜ measures ≡ measuresOf column bolts face ⌝ }
+    ensures { λ r. ⌜ (r ≡ firstFailing Admitted Refused (take 4 (refusals column bolts face))) × (length (face .levers) ≡ 8) ⌝ }
+{
+    let levers = face.levers;
+    if !refusals::levers_fall(face.rows as usize, levers) {
+        return Admission::Refused(11);
+    }
+    if !refusals::rows_in_place(face) {
+        return Admission::Refused(12);
+    }
+    if refusals::too_tight(face.extended, measures.spacing) {
+        return Admission::Refused(13);
+    }
+    if strength::both_too_thick(column, face.plate, bolts, measures.steel, measures.bolt) {
+        return Admission::Refused(14);
+    }
+    Admission::Admitted
+}
+
+// A face that the first four let pass: the last is 15, where N leaves no cap.
+fn work_admitted(column: Column, bolts: Bolts, face: Face, measures: Measures) -> Outcome
+    requires { ⌜ Measured column bolts face measures ⌝ }
+    ensures { λ r. ⌜ r ≡ firstFailing (completed (resultOf column bolts face)) (λ number. refusedBy number 0) (drop 4 (refusals column bolts face)) ⌝ }
+{
+    let check = governing_of(column, face, measures.steel);
+    let capped = governing::tension_cap(governing::force_of(check), face.loads);
     let Cap::Newtons(cap) = capped else {
         return refused(15, 0);
     };
-    result_of(joint, spacing, steel, bolt, check, cap)
+    Outcome {
+        refusal: Refusal {
+            number: 0,
+            field: 0,
+        },
+        result: result_of(column, bolts, face, measures, check, cap),
+    }
 }
 
-// The forces of the joint's rows, under the limits of all groups and the cap on them together.
-fn row_forces(
-    joint: Joint,
-    spacing: Spacing,
-    steel: SteelStrengths,
-    pair: u64,
-    cap: u64,
-) -> [u64; 8]
-    requires { ⌜ Admissible joint ⌝ }
-    requires { ⌜ Measured joint spacing steel pair ⌝ }
-    ensures { λ r. ⌜ r ≡ eightPlaces (shared (withCap (limitOf joint) (rowsOf joint) cap) (rowsOf joint)) ⌝ }
-    ensures { λ r. ⌜ ((k : ℕ) → getD r k 0 ≤ 4000000000) ⌝ }
+fn governing_of(column: Column, face: Face, steel: SteelStrengths) -> CompressionCheck
+    requires { ⌜ PartsInRange steel column (face .beam) (face .plate) (face .welds) × (steel ≡ steelOf column face) ⌝ }
+    ensures { λ r. ⌜ (r ≡ governingOf column face) × (forceOf r ≤ mostBearing) ⌝ }
 {
-    let rows = joint.face.rows as usize;
-    let whole = rows - 1;
-    let mut limits = [0u64; 36];
-    tension::group_limits(joint, spacing, steel, pair, &mut limits);
-    limits[whole] = least(limits[whole], cap);
-    allocation::share(rows, &limits)
+    let resistances = compression::resistances_of(
+        steel,
+        column,
+        face.beam,
+        face.plate,
+        face.welds,
+    );
+    governing::governing_check(resistances)
 }
 
-// The whole result of a joint that isn't refused.
+// The whole result of a face that isn't refused.
 fn result_of(
-    joint: Joint,
-    spacing: Spacing,
-    steel: SteelStrengths,
-    bolt: BoltStrengths,
+    column: Column,
+    bolts: Bolts,
+    face: Face,
+    measures: Measures,
     check: CompressionCheck,
     cap: u64,
-) -> Outcome
-    requires { ⌜ Admissible joint ⌝ }
-    requires { ⌜ Measured joint spacing steel (bolt .pair) ⌝ }
-    requires { ⌜ (bolt ≡ boltStrengths (joint .bolts)) × (check ≡ governingOf joint) × (cap ≡ capOf joint) ⌝ }
-    ensures { λ r. ⌜ r ≡ resultOf joint ⌝ }
+) -> FaceResult
+    requires { ⌜ Capped column bolts face measures check cap ⌝ }
+    ensures { λ r. ⌜ r ≡ resultOf column bolts face ⌝ }
 {
-    let face = joint.face;
     let levers = face.levers;
-    let forces = row_forces(joint, spacing, steel, bolt.pair, cap);
+    let forces = row_forces(column, bolts, face, measures, cap);
     let tally = verdicts::tally_forces(face.rows as usize, levers, forces);
-    Outcome {
-        refusal: 0,
-        field: 0,
+    FaceResult {
         forces,
         sum: tally.sum,
         newton_metres: tally.moment / 10000,
         cap,
         check,
-        verdicts: judge(joint, steel, bolt, forces, tally),
+        verdicts: judge(column, bolts, face, measures, forces, tally),
     }
 }
 
-// The four verdicts on a joint's forces.
+// The forces of a face's rows, under the limits of all groups and the cap on them together.
+fn row_forces(column: Column, bolts: Bolts, face: Face, measures: Measures, cap: u64) -> [u64; 8]
+    requires { ⌜ Measured column bolts face measures ⌝ }
+    ensures { λ r. ⌜ r ≡ eightPlaces (shared (withCap (limitOf column bolts face) (rowsOf face) cap) (rowsOf face)) ⌝ }
+    ensures { λ r. ⌜ ((k : ℕ) → getD r k 0 ≤ 4000000000) ⌝ }
+{
+    let rows = face.rows as usize;
+    let whole = rows - 1;
+    let mut limits = [0u64; 36];
+    tension::group_limits(
+        Joint {
+            column,
+            bolts,
+            face,
+        },
+        measures.spacing,
+        measures.steel,
+        measures.bolt.pair,
+        &mut limits,
+    );
+    limits[whole] = least(limits[whole], cap);
+    allocation::share(rows, &limits)
+}
+
+// The four verdicts on a face's forces.
 fn judge(
-    joint: Joint,
-    steel: SteelStrengths,
-    bolt: BoltStrengths,
+    column: Column,
+    bolts: Bolts,
+    face: Face,
+    measures: Measures,
     forces: [u64; 8],
     tally: Tally,
 ) -> Verdicts
-    requires { ⌜ InRange joint ⌝ }
-    requires { ⌜ (steel ≡ steelOf joint) × (bolt ≡ boltStrengths (joint .bolts)) ⌝ }
-    requires { ⌜ (forces ≡ eightPlaces (forcesOf joint)) × (tally ≡ tallyOf (leversOf joint) (forcesOf joint)) ⌝ }
-    requires { ⌜ ((k : ℕ) → getD forces k 0 ≤ 4000000000) × (tally .moment ≤ 1000000000000000) ⌝ }
-    ensures { λ r. ⌜ r ≡ verdictsOf joint (forcesOf joint) ⌝ }
+    requires { ⌜ Measured column bolts face measures ⌝ }
+    requires { ⌜ Tallied column bolts face forces tally ⌝ }
+    ensures { λ r. ⌜ r ≡ verdictsOf column bolts face (forcesOf column bolts face) ⌝ }
 {
-    let face = joint.face;
     let beam = face.beam;
     let plate = face.plate;
     let weld = strength::weld_strength(beam.grade, plate.grade);
@@ -172,9 +227,9 @@ fn judge(
     Verdicts {
         bending: verdicts::carries_moment(face.loads, beam, tally.moment),
         bolts: verdicts::bolts_carry(
-            joint.bolts,
-            bolt,
-            joint.column,
+            bolts,
+            measures.bolt,
+            column,
             plate,
             tally.pulling,
             idle,
@@ -182,7 +237,7 @@ fn judge(
         ),
         flange_weld: verdicts::flange_weld(
             face,
-            steel.beam,
+            measures.steel.beam,
             weld,
             verdicts::top_rows(face.extended, forces),
         ),

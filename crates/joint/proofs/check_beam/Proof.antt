@@ -1,7 +1,8 @@
 -- `joint::check_beam` meets its contract: the answers of its four calls join up to that of the list of fields 14 to 17.
 -- Assumes nothing.
 use borrow.Author.Needs.{needs}
-use Rattle.joint.proofs.Fields.{joined, from-start}
+use mathlib.Core.List.{[]}
+use Rattle.joint.proofs.Fields.{nothing-asked}
 use Rattle.joint.proofs.check_beam.Statement.{statement}
 use Rattle.joint.proofs.check_beam.Tie as tie
 
@@ -18,7 +19,14 @@ ranged-requires-4 : tie.Need-ranged-requires-4
 ranged-requires-4 c κs = search needs
 
 returns : tie.Need-returns
-returns c = rw (c .ranged4 .ensures, c .before .ranged3 .ensures, c .before .before .ranged2 .ensures, c .before .before .before .ranged .ensures) (simp (joined, ← from-start))
+returns c =
+    let flange = c .before in
+    let width = flange .before in
+    let depth = width .before in
+    c .ranged4 .ensures _
+    (flange .ranged3 .ensures _
+    (width .ranged2 .ensures _
+    (depth .ranged .ensures [] nothing-asked)))
 
 pub check-beam-spec : {M : Type 1} → statement M
 check-beam-spec =

@@ -1,7 +1,8 @@
 -- `joint::check_column` meets its contract: the answers of its six calls join up to that of the list of fields 8 to 13.
 -- Assumes nothing.
 use borrow.Author.Needs.{needs}
-use Rattle.joint.proofs.Fields.{joined, from-start}
+use mathlib.Core.List.{[]}
+use Rattle.joint.proofs.Fields.{nothing-asked}
 use Rattle.joint.proofs.check_column.Statement.{statement}
 use Rattle.joint.proofs.check_column.Tie as tie
 
@@ -24,7 +25,18 @@ ranged-requires-6 : tie.Need-ranged-requires-6
 ranged-requires-6 c κs = search needs
 
 returns : tie.Need-returns
-returns c = rw (c .ranged6 .ensures, c .before .ranged5 .ensures, c .before .before .ranged4 .ensures, c .before .before .before .ranged3 .ensures, c .before .before .before .before .ranged2 .ensures, c .before .before .before .before .before .ranged .ensures) (simp (joined, ← from-start))
+returns c =
+    let radius = c .before in
+    let web = radius .before in
+    let flange = web .before in
+    let width = flange .before in
+    let depth = width .before in
+    c .ranged6 .ensures _
+    (radius .ranged5 .ensures _
+    (web .ranged4 .ensures _
+    (flange .ranged3 .ensures _
+    (width .ranged2 .ensures _
+    (depth .ranged .ensures [] nothing-asked)))))
 
 pub check-column-spec : {M : Type 1} → statement M
 check-column-spec =

@@ -3,7 +3,8 @@
 -- Assumes nothing.
 use borrow.Author.Needs.{needs}
 use mathlib.Core.Bool.{or-false, or-assoc}
-use Rattle.joint.proofs.Fields.{joined, from-start}
+use mathlib.Core.List.{[]}
+use Rattle.joint.proofs.Fields.{nothing-asked}
 use Rattle.joint.proofs.check_head.Statement.{statement}
 use Rattle.joint.proofs.check_head.Tie as tie
 
@@ -21,8 +22,14 @@ keep-requires-2 c κs = search needs
 
 returns : tie.Need-returns
 returns c =
-    rw (c .keep2 .ensures, c .before .keep .ensures, c .before .before .ranged2 .ensures, c .before .before .before .ranged .ensures)
-    (simp (joined, ← from-start, or-false, or-assoc))
+    let class = c .before in
+    let extended = class .before in
+    let count = extended .before in
+    simp (or-false, ← or-assoc)
+    (c .keep2 .ensures _
+    (class .keep .ensures _
+    (extended .ranged2 .ensures _
+    (count .ranged .ensures [] nothing-asked))))
 
 pub check-head-spec : {M : Type 1} → statement M
 check-head-spec =

@@ -3,20 +3,22 @@
 use mathlib.Core.Path.{_≡_, refl, sym, ap, _∙_}
 use Prim.Native.Nat.{_+_, _-_, _≤_, _<_}
 use native.Mathlib.Omega.{arith}
-use mathlib.Core.List.{[], _∷_, _++_}
+use mathlib.Core.List.{List, [], _∷_, _++_}
 use lib.ListN.{length, getD, drop}
 use lib.Dec.{lit≤}
+use Rattle.arithmetic.specs.Checks.{Check}
 use Rattle.arithmetic.specs.Range.{within}
 use Rattle.arithmetic.proofs.Bounds.{within-either}
 use borrow.Author.Needs.{needs}
 use Rattle.joint.specs.Ranges.{levers}
-use Rattle.joint.specs.Fields.{firstOutside, leverFields}
-use Rattle.joint.proofs.Fields.{from-start, stops, goes-on, next-lever, no-lever}
+use Rattle.joint.specs.Fields.{leverChecks}
+use Rattle.joint.specs.Steps.{foundBy}
+use Rattle.joint.proofs.Fields.{nothing-asked, part-stops, part-holds, next-lever, no-lever}
 use Rattle.joint.proofs.check_levers.Statement.{statement}
 use Rattle.joint.proofs.check_levers.Tie as tie
 
 abbrev Inv-loop : tie.InvT-loop
-Inv-loop rows hs row₀ row = (row ≤ 8) × (firstOutside (leverFields rows row (drop row hs)) ≡ firstOutside (leverFields rows 0 hs))
+Inv-loop rows hs row₀ row = (row ≤ 8) × (foundBy (leverChecks rows row (drop row hs)) ≡ foundBy (leverChecks rows 0 hs))
 
 abbrev μ-loop : tie.MeasureT-loop
 μ-loop rows hs row₀ row = 8 - row
@@ -51,23 +53,37 @@ enum-told c = search needs
 enum-told-2 : tie.Need-enum-told-2 Inv-loop μ-loop
 enum-told-2 c = search needs
 
--- what a turn finds of its lever
-found : (c : tie.After-ranged Inv-loop μ-loop) → let at-loop = c .before .before .before .before in let a = at-loop .before .args in
-    c .ranged .result ≡ firstOutside ((30 + at-loop .loop .row, within (levers (a .rows) (at-loop .loop .row)) (getD (a .t2) (at-loop .loop .row) 0)) ∷ [])
-found c = rw (c .ranged .ensures, c .before .chosen2 .ensures, c .before .before .chosen .ensures) (simp (within-either, from-start))
+-- ---- the places: the turn's head, and the call's arguments
+
+abbrev turn : tie.After-ranged Inv-loop μ-loop → tie.At-loop Inv-loop μ-loop
+turn c = c .before .before .before .before
+
+abbrev start : tie.At-loop Inv-loop μ-loop → tie.Start Inv-loop μ-loop
+start c = c .before
+
+-- the check of the lever that a turn looks at
+abbrev own : tie.At-loop Inv-loop μ-loop → Check
+own c =
+    let row = c .loop .row in
+    (30 + row, within (levers (start c .args .rows) row) (getD (start c .args .t2) row 0))
+
+-- and those of the levers below
+abbrev below : tie.At-loop Inv-loop μ-loop → List Check
+below c = leverChecks (start c .args .rows) (c .loop .row + 1) (drop (c .loop .row + 1) (start c .args .t2))
+
+found : (c : tie.After-ranged Inv-loop μ-loop) → c .ranged .result ≡ foundBy (own (turn c) ∷ [])
+found c = rw (c .before .chosen2 .ensures, c .before .before .chosen .ensures, within-either) at (c .ranged .ensures [] nothing-asked)
 
 -- the levers that are left, of which the turn's is the first
-left : (c : tie.After-ranged Inv-loop μ-loop) → let at-loop = c .before .before .before .before in let a = at-loop .before .args in
-    firstOutside (((30 + at-loop .loop .row, within (levers (a .rows) (at-loop .loop .row)) (getD (a .t2) (at-loop .loop .row) 0)) ∷ [])
-    ++ leverFields (a .rows) (at-loop .loop .row + 1) (drop (at-loop .loop .row + 1) (a .t2))) ≡ firstOutside (leverFields (a .rows) 0 (a .t2))
-left c =
-    let at-loop = c .before .before .before .before in
-    let a = at-loop .before .args in
-    let in-array : at-loop .loop .row < length (a .t2) = omega arith in
-    ap firstOutside (sym (next-lever (a .rows) (at-loop .loop .row) (a .t2) in-array)) ∙ at-loop .loop .inv .1
+left : (c : tie.At-loop Inv-loop μ-loop) → c .loop .row < 8
+    → foundBy ((own c ∷ []) ++ below c) ≡ foundBy (leverChecks (start c .args .rows) 0 (start c .args .t2))
+left c more =
+    let args = start c .args in
+    let in-array : c .loop .row < length (args .t2) = omega arith in
+    ap foundBy (sym (next-lever (args .rows) (c .loop .row) (args .t2) in-array)) ∙ c .loop .inv .1
 
 returns : tie.Need-returns Inv-loop μ-loop
-returns c = stops _ _ (found (c .before .before)) (c .enum-told2 .given .1) ∙ left (c .before .before)
+returns c = part-stops _ _ (found (c .before .before)) (c .enum-told2 .given .1) ∙ left (turn (c .before .before)) (omega arith)
 
 add-row : tie.Need-add-row Inv-loop μ-loop
 add-row c = omega arith
@@ -76,13 +92,14 @@ loop-less : tie.Need-loop-less Inv-loop μ-loop
 loop-less c = omega arith
 
 loop-again : tie.Need-loop-again Inv-loop μ-loop
-loop-again c = (omega arith, goes-on _ _ (found (c .before .before)) (c .enum-told .given .1) refl ∙ left (c .before .before))
+loop-again c =
+    (omega arith, part-holds _ _ (found (c .before .before)) (c .enum-told .given .1) refl ∙ left (turn (c .before .before)) (omega arith))
 
 returns-2 : tie.Need-returns-2 Inv-loop μ-loop
 returns-2 c =
-    let a = c .before .before .args in
-    let at-end : c .before .loop .row ≡ length (a .t2) = omega arith in
-    no-lever (a .rows) (c .before .loop .row) (a .t2) at-end ∙ c .before .loop .inv .1
+    let args = start (c .before) .args in
+    let at-end : c .before .loop .row ≡ length (args .t2) = omega arith in
+    no-lever (args .rows) (c .before .loop .row) (args .t2) at-end ∙ c .before .loop .inv .1
 
 pub check-levers-spec : {M : Type 1} → statement M
 check-levers-spec =

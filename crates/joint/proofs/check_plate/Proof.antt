@@ -1,7 +1,8 @@
 -- `joint::check_plate` meets its contract: the answers of its five calls join up, the edge distance's range with its ends chosen apart.
 -- Assumes nothing.
 use borrow.Author.Needs.{needs}
-use Rattle.joint.proofs.Fields.{joined, from-start}
+use mathlib.Core.List.{[]}
+use Rattle.joint.proofs.Fields.{nothing-asked}
 use lib.Dec.{eqb}
 use Rattle.arithmetic.proofs.Bounds.{within-either}
 use Rattle.joint.proofs.check_plate.Statement.{statement}
@@ -30,11 +31,20 @@ ranged-requires-5 c κs = search needs
 
 returns : tie.Need-returns
 returns c =
-    let at-start = c .before .before .before .before .before .before .before in
-    let at-gauge = c .before .before .before .before in
-    rw
-    (c .ranged5 .ensures, c .before .ranged4 .ensures, c .before .before .chosen2 .ensures, c .before .before .before .chosen .ensures, at-gauge .ranged3 .ensures, at-gauge .before .ranged2 .ensures, at-gauge .before .before .ranged .ensures, within-either (eqb (at-start .args .extended) 0) 0 0 150 2000 (at-start .args .layout .edge))
-    (simp (joined, ← from-start))
+    let edge = c .before in
+    let highest = edge .before in
+    let lowest = highest .before in
+    let gauge = lowest .before in
+    let thickness = gauge .before in
+    let width = thickness .before in
+    let args = width .before .args in
+    let ends = within-either (eqb (args .extended) 0) 0 0 150 2000 (args .layout .edge) in
+    rw (highest .chosen2 .ensures, lowest .chosen .ensures, ends) at
+    (c .ranged5 .ensures _
+    (edge .ranged4 .ensures _
+    (gauge .ranged3 .ensures _
+    (thickness .ranged2 .ensures _
+    (width .ranged .ensures [] nothing-asked)))))
 
 pub check-plate-spec : {M : Type 1} → statement M
 check-plate-spec =

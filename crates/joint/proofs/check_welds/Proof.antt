@@ -1,7 +1,8 @@
 -- `joint::check_welds` meets its contract: the answers of its four calls join up to that of the list of fields 23 to 26.
 -- Assumes nothing.
 use borrow.Author.Needs.{needs}
-use Rattle.joint.proofs.Fields.{joined, from-start}
+use mathlib.Core.List.{[]}
+use Rattle.joint.proofs.Fields.{nothing-asked}
 use Rattle.joint.proofs.check_welds.Statement.{statement}
 use Rattle.joint.proofs.check_welds.Tie as tie
 
@@ -18,7 +19,14 @@ ranged-requires-4 : tie.Need-ranged-requires-4
 ranged-requires-4 c κs = search needs
 
 returns : tie.Need-returns
-returns c = rw (c .ranged4 .ensures, c .before .ranged3 .ensures, c .before .before .ranged2 .ensures, c .before .before .before .ranged .ensures) (simp (joined, ← from-start))
+returns c =
+    let web-length = c .before in
+    let web = web-length .before in
+    let flange = web .before in
+    c .ranged4 .ensures _
+    (web-length .ranged3 .ensures _
+    (web .ranged2 .ensures _
+    (flange .ranged .ensures [] nothing-asked)))
 
 pub check-welds-spec : {M : Type 1} → statement M
 check-welds-spec =

@@ -9,7 +9,7 @@ keep-requires : tie.Need-keep-requires
 keep-requires c κs = search needs
 
 returns : tie.Need-returns
-returns c = rw (c .keep .ensures) (simp or-false)
+returns c checks found = simp or-false (c .keep .ensures checks found)
 
 pub graded-spec : {M : Type 1} → statement M
 graded-spec = tie.close (tie.spec keep-requires returns)

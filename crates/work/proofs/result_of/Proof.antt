@@ -7,6 +7,7 @@ use Rattle.sharing.specs.Sharing.{shared, newtonMetres}
 use Rattle.allocation.specs.Allocation.{eightPlaces}
 use Rattle.joint.proofs.InRange.{lever-most}
 use Rattle.verdicts.specs.Tally.{tallyOf}
+use Rattle.governing.specs.Cap.{newtonsOf}
 use Rattle.work.specs.Joint.{rowsOf, leversOf, limitOf, capOf, forcesOf}
 use Rattle.work.specs.Work.{resultOf}
 use Rattle.work.proofs.Forces.{rows-kept}
@@ -30,7 +31,7 @@ counted c =
     let j = c .before .before .before .before .before .args .joint in
     c .tally-forces .ensures .0
     ∙ ap (λ forces. tallyOf (leversOf j) (take (rowsOf j) forces)) (own (c .before .before))
-    ∙ ap (tallyOf (leversOf j)) (rows-kept (rowsOf j) (withCap (limitOf j) (rowsOf j) (capOf j)))
+    ∙ ap (tallyOf (leversOf j)) (rows-kept (rowsOf j) (withCap (limitOf j) (rowsOf j) (newtonsOf (capOf j))))
 
 row-forces-requires : tie.Need-row-forces-requires
 row-forces-requires c κs = search needs
@@ -59,14 +60,15 @@ returns c =
     let s = c .before .before .before .before .before .before .before in
     let tally = counted (c .before .before) in
     λ i. record {
-      refusal = 0;
-      field = 0;
-      forces = own (c .before .before .before .before) i;
-      sum = tally i .sum;
-      «newton_metres» = tally i .moment / 10000;
-      cap = s .pre .1 .1 .2 i;
-      check = s .pre .1 .1 .1 i;
-      verdicts = c .judge .ensures i;
+      refusal = record { number = 0; field = 0 };
+      result = record {
+        forces = own (c .before .before .before .before) i;
+        sum = tally i .sum;
+        «newton_metres» = tally i .moment / 10000;
+        cap = s .pre .1 .1 .2 i;
+        check = s .pre .1 .1 .1 i;
+        verdicts = c .judge .ensures i;
+      };
     }
 
 pub result-of-spec : {M : Type 1} → statement M

@@ -1,0 +1,69 @@
+-- What one face of the column comes to, from the crates below: limits, governing check, cap, row forces, moment and verdicts. A face is
+-- worked with the column and the bolts that it shares. Assumes nothing.
+use Prim.Native.Nat.{ℕ}
+use mathlib.Core.Bool.{Bool}
+use mathlib.Core.List.{List}
+use lib.ListN.{take}
+use lib.IntN.{ℤ}
+use Rattle.joint.specs.declared.Column.{Column}
+use Rattle.joint.specs.declared.Bolts.{Bolts}
+use Rattle.joint.specs.declared.Face.{Face}
+use Rattle.strength.specs.Steel.{steelStrengths}
+use Rattle.strength.specs.declared.SteelStrengths.{SteelStrengths}
+use Rattle.sharing.specs.Groups.{Table, withCap}
+use Rattle.sharing.specs.Sharing.{shared, moment}
+use Rattle.tension.specs.Limits.{groupLimit}
+use Rattle.compression.specs.Compression.{resistancesOf}
+use Rattle.governing.specs.Governing.{forceOf, governingCheck}
+use Rattle.governing.specs.Cap.{tensionCap, newtonsOf}
+use Rattle.governing.specs.declared.CompressionCheck.{CompressionCheck}
+use Rattle.verdicts.specs.Bending.{carries}
+use Rattle.verdicts.specs.Bolts.{boltsPass}
+use Rattle.verdicts.specs.Welds.{flangeWeldPasses, webWeldPasses}
+use Rattle.outcome.specs.declared.Verdicts.{Verdicts}
+
+abbrev pub rowsOf : Face → ℕ
+rowsOf face = face .rows
+
+-- the levers of the rows
+abbrev pub leversOf : Face → List ℕ
+leversOf face = take (rowsOf face) (face .levers)
+
+-- the limit of each group, before any lowering
+abbrev pub limitOf : Column → Bolts → Face → Table
+limitOf column bolts face = groupLimit column bolts face
+
+abbrev pub steelOf : Column → Face → SteelStrengths
+steelOf column face = steelStrengths column (face .beam) (face .plate)
+
+-- 'The first least of these four governs.'
+unfoldable pub governingOf : Column → Face → CompressionCheck
+governingOf column face =
+    governingCheck (resistancesOf (steelOf column face) column (face .beam) (face .plate) (face .welds))
+
+-- 'The cap is that force less N.'
+unfoldable pub capOf : Column → Face → ℤ
+unfolding governingOf
+capOf column face = tensionCap (face .loads) (forceOf (governingOf column face))
+
+-- 'It joins the limits as one on group 1 to n.'
+unfoldable pub forcesOf : Column → Bolts → Face → List ℕ
+unfolding capOf
+forcesOf column bolts face =
+    shared (withCap (limitOf column bolts face) (rowsOf face) (newtonsOf (capOf column face))) (rowsOf face)
+
+-- Z of a list of forces
+abbrev pub momentOf : Face → List ℕ → ℕ
+momentOf face forces = moment (leversOf face) forces
+
+-- whether a list carries the design moment with the design axial force
+abbrev pub carriesOf : Face → List ℕ → Bool
+carriesOf face forces = carries (face .loads) (face .beam) (momentOf face forces)
+
+abbrev pub verdictsOf : Column → Bolts → Face → List ℕ → Verdicts
+verdictsOf column bolts face forces = record {
+  bending = carriesOf face forces;
+  bolts = boltsPass bolts column (face .plate) (face .«shear_rows») (face .loads .shear) forces;
+  «flange_weld» = flangeWeldPasses face forces;
+  «web_weld» = webWeldPasses face;
+}
