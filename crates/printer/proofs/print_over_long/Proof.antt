@@ -1,10 +1,10 @@
--- `over_long` meets its contract: one line of four bytes, put whole or not at all. Assumes nothing.
+-- `print_over_long` meets its contract: one line of four bytes, put whole or not at all. Assumes nothing.
 use native.Mathlib.Omega.{arith}
 use lib.ListN.{length-set}
 use Rattle.printer.proofs.Prints.{over-long-short, over-long-put}
 use borrow.Author.Needs.{needs}
-use Rattle.printer.proofs.over_long.Statement.{statement}
-use Rattle.printer.proofs.over_long.Tie as tie
+use Rattle.printer.proofs.print_over_long.Statement.{statement}
+use Rattle.printer.proofs.print_over_long.Tie as tie
 
 returns : tie.Need-returns
 returns c = over-long-short _ (omega arith)
@@ -27,8 +27,8 @@ same-length c = simp length-set
 returns-2 : tie.Need-returns-2
 returns-2 c = over-long-put _ (omega arith)
 
-pub over-long-spec : {M : Type 1} → statement M
-over-long-spec =
+pub print-over-long-spec : {M : Type 1} → statement M
+print-over-long-spec =
     tie.close
     (tie.spec
     returns
