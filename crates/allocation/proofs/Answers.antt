@@ -1,80 +1,87 @@
 -- The cases of what Allocate answers, as the code's tests tell them apart, and what an answer that is no refusal is.
 -- Assumes nothing.
 use mathlib.Core.Path.{_≡_, sym, ap, _∙_}
-use mathlib.Core.Bool.{Bool, true, false, cond, not}
-use Prim.Native.Nat.{ℕ, _+_, _-_, _*_, _≤_, _<_}
+use mathlib.Core.Bool.{Bool, true, false}
+use Prim.Native.Nat.{ℕ, suc, _+_, _-_, _*_, _≤_, _<_}
 use native.Mathlib.Nat.{mul-le-mul}
 use native.Mathlib.Omega.{arith}
-use mathlib.Core.List.{List}
+use mathlib.Core.List.{List, [], _∷_}
 use lib.ListN.{length, take, replicate}
 use lib.Seq.{take-at, length-take-le, getD-take}
-use lib.Dec.{leb, ltb}
-use borrow.Author.Tests.{lt-ltb, le-ltb, leb-true, not-false}
+use lib.Dec.{leb}
+use borrow.Author.Tests.{lt-leb, le-leb, leb-true}
+use Rattle.arithmetic.specs.Checks.{Check, firstFailing}
 use Rattle.arithmetic.specs.Range.{within}
+use Rattle.arithmetic.proofs.Checks.{holds, fails, held, none-left}
 use Rattle.joint.specs.Ranges.{rowCounts}
-use Rattle.sharing.specs.Groups.{groupCount, listed}
+use Rattle.joint.specs.Places.{eightPlaces}
+use Rattle.sharing.specs.Groups.{groupCount, listed, mostLimit}
 use Rattle.sharing.specs.Sharing.{shared}
 use Rattle.sharing.specs.Best.{Best}
 use Rattle.sharing.proofs.Theorems.{best}
 use Rattle.allocation.specs.declared.Allocation.{Allocation}
-use Rattle.allocation.specs.Allocation.{noneAbove, eightPlaces, refusedBy, allocated}
+use Rattle.allocation.specs.Allocation.{noneAbove, refusedBy, refusals, allocated}
 use Rattle.allocation.specs.Steps.{Shareable}
 use Rattle.allocation.proofs.Bound.{both, each-within}
 
-pub at-most-eight : (n : ℕ) (rows : Bool) → rows ≡ within rowCounts n → not rows ≡ false → n ≤ 8
-at-most-eight n rows er ok = leb-true n 8 (both (leb 1 n) (leb n 8) (sym er ∙ not-false rows ok) .1)
+pub at-most-eight : (n : ℕ) → within rowCounts n ≡ true → n ≤ 8
+at-most-eight n rows = leb-true n 8 (both (leb 1 n) (leb n 8) rows .1)
 
 -- n(n+1) of at most eight rows
 pub product-le : (n : ℕ) → n ≤ 8 → n * (n + 1) ≤ 72
 product-le n h = mul-le-mul {n₂ = 8} {m₂ = 9} h (omega arith)
 
-module _ (n : ℕ) (limits : List ℕ) (rows : Bool) (er : rows ≡ within rowCounts n) where
-  pub refused-by-3 : not rows ≡ true → refusedBy 3 ≡ allocated n limits
-  unfolding allocated
-  refused-by-3 bad = rw (← er, bad)
-
-  module _ (ok : not rows ≡ false) where
-    pub refused-by-7 : length limits < groupCount n → refusedBy 7 ≡ allocated n limits
-    unfolding allocated
-    refused-by-7 few = rw (← er, ok, lt-ltb _ _ few)
-
-    module _ (enough : groupCount n ≤ length limits) (none : Bool) (en : none ≡ noneAbove 4000000000 (take (groupCount n) limits)) where
-      pub refused-by-8 : not none ≡ true → refusedBy 8 ≡ allocated n limits
-      unfolding allocated
-      refused-by-8 bad = rw (← er, ok, le-ltb _ _ enough, ← en, bad)
-
-      pub taken : not none ≡ false → record { refusal = 0; forces = eightPlaces (shared (listed n limits) n) } ≡ allocated n limits
-      unfolding allocated
-      taken small = rw (← er, ok, le-ltb _ _ enough, ← en, small)
-
-      pub shareable : not none ≡ false → Shareable n limits
-      shareable small =
-          record {
-            rows = at-most-eight n rows er ok;
-            enough = enough;
-            bounded = λ k h.
-                let small-one = each-within 4000000000 (take (groupCount n) limits) (sym en ∙ not-false none small) k
-                (rw (length-take-le (groupCount n) limits enough) h) in
-                rw (getD-take (groupCount n) limits k 0 h) at small-one;
-          }
-
--- an answer that is no refusal has the best forces
 module _ (n : ℕ) (limits : List ℕ) where
-  best-of : (rows few many : Bool)
-      → (answer : Allocation)
-      → answer ≡ cond rows (refusedBy 3) (cond few (refusedBy 7) (cond many (refusedBy 8) (record { refusal = 0; forces = eightPlaces (shared (listed n limits) n) })))
-      → answer .refusal ≡ 0 → Best (listed n limits) n (take n (answer .forces))
-  unfolding eightPlaces
-  best-of true few many answer e z = let three : _≡_ {A = ℕ} 0 3 = sym z ∙ ap (λ a. a .refusal) e in absurd (omega arith)
-  best-of false true many answer e z = let seven : _≡_ {A = ℕ} 0 7 = sym z ∙ ap (λ a. a .refusal) e in absurd (omega arith)
-  best-of false false true answer e z = let eight : _≡_ {A = ℕ} 0 8 = sym z ∙ ap (λ a. a .refusal) e in absurd (omega arith)
-  best-of false false false answer e z =
-      let b = best (listed n limits) n in
-      let forces = shared (listed n limits) n in
-      rw (ap (λ a. take n (a .forces)) e ∙ take-at forces (replicate (8 - length forces) 0) n (b .competes .rows)) b
+  pub refused-by-3 : within rowCounts n ≡ false → allocated n limits ≡ refusedBy 3
+  unfolding allocated refusals
+  refused-by-3 bad = fails _ refusedBy 3 _ _ bad
 
-  pub no-refusal-is-best : (answer : Allocation) → answer ≡ allocated n limits → answer .refusal ≡ 0
+  module _ (rows : within rowCounts n ≡ true) where
+    pub refused-by-7 : length limits < groupCount n → allocated n limits ≡ refusedBy 7
+    unfolding allocated refusals
+    refused-by-7 few = holds _ refusedBy 3 _ _ rows ∙ fails _ refusedBy 7 _ _ (lt-leb _ _ few)
+
+    module _ (enough : groupCount n ≤ length limits) where
+      pub refused-by-8 : noneAbove mostLimit (take (groupCount n) limits) ≡ false → allocated n limits ≡ refusedBy 8
+      unfolding allocated refusals
+      refused-by-8 bad =
+          holds _ refusedBy 3 _ _ rows ∙ holds _ refusedBy 7 _ _ (le-leb _ _ enough) ∙ fails _ refusedBy 8 _ _ bad
+
+      module _ (small : noneAbove mostLimit (take (groupCount n) limits) ≡ true) where
+        pub taken : allocated n limits ≡ record { refusal = 0; forces = eightPlaces (shared (listed n limits) n) }
+        unfolding allocated refusals
+        taken =
+            holds _ refusedBy 3 _ _ rows ∙ holds _ refusedBy 7 _ _ (le-leb _ _ enough) ∙ holds _ refusedBy 8 _ _ small
+            ∙ none-left _ refusedBy
+
+        pub shareable : Shareable n limits
+        shareable =
+            record {
+              rows = at-most-eight n rows;
+              enough = enough;
+              bounded = λ k h.
+                  let inside : k < length (take (groupCount n) limits) = rw (length-take-le (groupCount n) limits enough) h in
+                  rw (getD-take (groupCount n) limits k 0 h) at (each-within mostLimit (take (groupCount n) limits) small k inside);
+            }
+
+  -- where the answer is no refusal the first test holds, and the others decide
+  passes : (number : ℕ) (test : Bool) (result : Allocation) (checks : List Check) (answer : Allocation)
+      → firstFailing result refusedBy ((suc number, test) ∷ checks) ≡ answer → answer .refusal ≡ 0
+      → firstFailing result refusedBy checks ≡ answer
+  passes number test result checks answer e none =
+      held result refusedBy (suc number) test checks answer e
+      (λ refused. let never : suc number ≡ 0 = ap (λ a. a .refusal) refused ∙ none in absurd (omega arith)) .1
+
+  -- an answer that is no refusal has the best forces
+  pub no-refusal-is-best : (answer : Allocation) → allocated n limits ≡ answer → answer .refusal ≡ 0
       → Best (listed n limits) n (take n (answer .forces))
-  unfolding allocated
-  no-refusal-is-best answer e z =
-      best-of (not (within rowCounts n)) (ltb (length limits) (groupCount n)) (not (noneAbove 4000000000 (take (groupCount n) limits))) answer e z
+  unfolding allocated refusals eightPlaces
+  no-refusal-is-best answer e none =
+      let p3 = passes 2 _ _ _ answer e none in
+      let p7 = passes 6 _ _ _ answer p3 none in
+      let p8 = passes 7 _ _ _ answer p7 none in
+      let b = best (listed n limits) n in
+      let list = shared (listed n limits) n in
+      let own : take n (answer .forces) ≡ list =
+      ap (λ a. take n (a .forces)) (sym p8 ∙ none-left _ refusedBy) ∙ take-at list (replicate (8 - length list) 0) n (b .competes .rows) in
+      rw own b

@@ -8,7 +8,7 @@ use native.Mathlib.Omega.{arith}
 use mathlib.Core.List.{List}
 use lib.ListN.{length, getD, set, length-set}
 use lib.Seq.{getD-set-same, getD-set-other}
-use Rattle.sharing.specs.Groups.{groupCount, groupsAbove, listed}
+use Rattle.sharing.specs.Groups.{groupCount, groupsAbove, listed, mostLimit}
 use Rattle.sharing.specs.Sharing.{lowered}
 use Rattle.sharing.proofs.Places.{groups-inside}
 use Rattle.sharing.proofs.Lowering.{lowered-le, lowered-last, lowered-next}
@@ -19,11 +19,11 @@ module _ (n : ℕ) (limits : List ℕ) where
   pub place-inside : Shareable n limits → (i j first : ℕ) → first ≡ groupsAbove n i → i ≤ j → j < n → first + (j - i) < groupCount n
   place-inside s i j first e h inside = omega (arith, groups-inside n i (omega arith))
 
-  pub limit-le : Shareable n limits → (i j : ℕ) → i ≤ j → j < n → listed n limits i j ≤ 4000000000
+  pub limit-le : Shareable n limits → (i j : ℕ) → i ≤ j → j < n → listed n limits i j ≤ mostLimit
   unfolding listed
   limit-le s i j h inside = s .bounded _ (place-inside s i j _ refl h inside)
 
-  pub lowered-le-most : Shareable n limits → (i j : ℕ) → i ≤ j → j < n → lowered (listed n limits) n i j ≤ 4000000000
+  pub lowered-le-most : Shareable n limits → (i j : ℕ) → i ≤ j → j < n → lowered (listed n limits) n i j ≤ mostLimit
   lowered-le-most s i j h inside = omega (arith, lowered-le (listed n limits) n i j, limit-le s i j h inside)
 
   -- lowering from the longest group on

@@ -10,18 +10,19 @@ use native.Mathlib.Numerals.{add-one}
 use mathlib.Core.List.{List, [], _∷_, _++_}
 use lib.ListN.{length, getD, set, replicate, getD-replicate}
 use lib.Seq.{set-at, append-snoc}
-use Rattle.sharing.specs.Groups.{Table, total, groupsAbove, listed}
+use Rattle.sharing.specs.Groups.{Table, total, groupsAbove, listed, mostLimit}
 use Rattle.sharing.proofs.Totals.{total-append}
 use Rattle.sharing.specs.Sharing.{lowered, nextForce, forcesDownTo, shared}
 use Rattle.sharing.proofs.Lowering.{lowered-le}
 use Rattle.sharing.proofs.Sums.{sumDownTo, length-forces, sum-step, sum-le, le-sum}
-use Rattle.allocation.specs.Allocation.{eightPlaces}
+use Rattle.allocation.specs.Allocation.{}
+use Rattle.joint.specs.Places.{eightPlaces}
 use Rattle.allocation.specs.Steps.{Shareable, Counted}
 use Rattle.allocation.proofs.Counting.{limit-le}
 
 -- What the groups that begin at the first r rows allow the sum down to row k to be.
 unfoldable pub allowed : Table → ℕ → ℕ → ℕ → ℕ
-allowed limit n zero k = 4000000000
+allowed limit n zero k = mostLimit
 allowed limit n (suc r) k = min (allowed limit n r k) (sumDownTo limit n r + lowered limit n r k)
 
 -- How things stand when `row` rows have their forces.
@@ -50,7 +51,7 @@ fill got row empty value e =
     set-at got 0 (replicate empty 0) value row e ∙ sym (append-snoc got value (replicate empty 0))
 
 module _ (n : ℕ) (limits : List ℕ) (s : Shareable n limits) where
-  pub sum-le-most : (k : ℕ) → k ≤ n → sumDownTo (listed n limits) n k ≤ 4000000000
+  pub sum-le-most : (k : ℕ) → k ≤ n → sumDownTo (listed n limits) n k ≤ mostLimit
   unfolding sumDownTo forcesDownTo
   sum-le-most zero h = omega arith
   sum-le-most (suc k) h =
@@ -79,7 +80,7 @@ module _ (n : ℕ) (limits : List ℕ) (s : Shareable n limits) where
       (le-sum (listed n limits) n k _ (λ i h. allowed-le k (suc k) i (omega arith)))
       (sum-le-allowed k (suc k) (le-refl (suc k)) inside)
 
-  pub start : SharedDownTo n limits (replicate 8 0) (replicate 8 4000000000) 0 0 0
+  pub start : SharedDownTo n limits (replicate 8 0) (replicate 8 mostLimit) 0 0 0
   unfolding sumDownTo forcesDownTo groupsAbove allowed
   start =
       record {
@@ -88,7 +89,7 @@ module _ (n : ℕ) (limits : List ℕ) (s : Shareable n limits) where
         sum = refl;
         got = refl;
         size = refl;
-        left = λ k h inside. getD-replicate 8 k 4000000000 0 (omega (arith, s .rows));
+        left = λ k h inside. getD-replicate 8 k mostLimit 0 (omega (arith, s .rows));
       }
 
   module _ (forces sums : List ℕ) (above first row : ℕ) (d : SharedDownTo n limits forces sums above first row) (inside : row < n)
@@ -138,7 +139,7 @@ module _ (n : ℕ) (limits : List ℕ) (s : Shareable n limits) where
       ∙ ap (λ k. forcesDownTo (listed n limits) n n ++ replicate (8 - k) 0) (sym (length-forces (listed n limits) n n))
 
   -- no place has more than Allocate takes
-  pub force-le-most : (k : ℕ) → getD (eightPlaces (shared (listed n limits) n)) k 0 ≤ 4000000000
+  pub force-le-most : (k : ℕ) → getD (eightPlaces (shared (listed n limits) n)) k 0 ≤ mostLimit
   unfolding eightPlaces shared sumDownTo
   force-le-most k =
       let forces = forcesDownTo (listed n limits) n n in

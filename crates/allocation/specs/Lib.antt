@@ -1,3 +1,3 @@
--- What Allocate answers, and what the steps of sharing require and leave. Read `Allocation` first.
+-- Document 01's: what Allocate answers (`Allocation`). For the code: what the steps of sharing require and leave (`Steps`).
 pub mod Allocation
 pub mod Steps

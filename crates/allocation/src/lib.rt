@@ -1,15 +1,13 @@
 // Allocate: limits of row groups become row forces (document 01, 'Sharing the force' and 'Allocate').
 // Rows count from 0 here, from 1 in document 01.
 ghost use mathlib.Core.Path.{_≡_};
-ghost use Prim.Native.Nat.{_+_, _≤_, _<_};
-ghost use lib.ListN.{length, take};
-ghost use Rattle.arithmetic.specs.Range.{within};
-ghost use Rattle.joint.specs.Ranges.{rowCounts};
-ghost use Rattle.sharing.specs.Groups.{groupsAbove, listed};
+ghost use lib.ListN.{take};
+ghost use Rattle.joint.specs.Places.{eightPlaces};
+ghost use Rattle.sharing.specs.Groups.{listed};
 ghost use Rattle.sharing.specs.Sharing.{shared};
 ghost use Rattle.sharing.specs.Best.{Best};
-ghost use Rattle.allocation.specs.Allocation.{noneAbove, eightPlaces, refusedBy, allocated};
-ghost use Rattle.allocation.specs.Steps.{Shareable, Counted};
+ghost use Rattle.allocation.specs.Allocation.{noneAbove, refusedBy, allocated};
+ghost use Rattle.allocation.specs.Steps.{Shareable, Countable, Counted};
 use arithmetic::least;
 
 // No limit above this is taken: refusal 8.
@@ -27,7 +25,7 @@ pub fn allocate(count: usize, limits: &[u64]) -> Allocation
     ensures equals { λ r. ⌜ r ≡ allocated count (now (limits .entry)) ⌝ }
     ensures best { λ r. ⌜ (r .refusal ≡ 0 → Best (listed count (now (limits .entry))) count (take count (r .forces))) ⌝ }
 {
-    if !is_row_count(count) {
+    if !joint::is_row_count(count) {
         return refused(3);
     }
     let groups = count * (count + 1) / 2;
@@ -75,8 +73,7 @@ fn count_groups(
     count: usize,
     above: u64,
 )
-    requires { ⌜ Shareable count (now limits) ⌝ }
-    requires { ⌜ (row < count) × (first ≡ groupsAbove count row) × (above ≤ 4000000000) × (count ≤ length (now sums)) ⌝ }
+    requires { ⌜ Countable count (now limits) first row above (now sums) ⌝ }
     ensures { λ _. ⌜ Counted count (now (limits .entry)) row above row (now (sums .entry)) (now (sums .exit)) ⌝ }
 {
     let mut last = count - 1;
@@ -103,13 +100,6 @@ fn none_above(limits: &[u64], most: u64) -> bool
         k += 1;
     }
     true
-}
-
-// Refusal 3's question.
-fn is_row_count(count: usize) -> bool
-    ensures { λ r. ⌜ r ≡ within rowCounts count ⌝ }
-{
-    (1 <= count) & (count <= 8)
 }
 
 fn refused(number: u32) -> Allocation

@@ -20,6 +20,10 @@ module _ {A : Type 0} (passed : A) (failed : ℕ → A) where
   unfolding firstFailing
   fails number test checks e = rw e
 
+  pub none-left : firstFailing passed failed [] ≡ passed
+  unfolding firstFailing
+  none-left = refl
+
   pub one-after-another : (first second : List Check)
       → firstFailing passed failed (first ++ second) ≡ firstFailing (firstFailing passed failed second) failed first
   unfolding firstFailing

@@ -53,6 +53,7 @@ put-length {buffer} {bytes} {exit} {from} put = ap length (put .stores) ∙ leng
 pub room-first : (xs ys : List ℕ) (from end : ℕ) → from + length (xs ++ ys) ≤ end → from + length xs ≤ end
 room-first xs ys from end room = omega (arith, room, length-append xs ys)
 
-pub room-after : {buffer exit xs : List ℕ} {from next : ℕ} (ys : List ℕ) → Put buffer from xs exit next → from + length (xs ++ ys) ≤ length buffer
+pub room-after : {buffer exit xs : List ℕ} {from next : ℕ} (ys : List ℕ) → Put buffer from xs exit next
+    → from + length (xs ++ ys) ≤ length buffer
     → next + length ys ≤ length exit
 room-after {xs = xs} ys put room = omega (arith, room, length-append xs ys, put .place, put-length put)

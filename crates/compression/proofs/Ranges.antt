@@ -2,8 +2,8 @@
 use Prim.Native.Nat.{_≤_}
 use Rattle.arithmetic.specs.Range.{Within, _to_}
 use Rattle.arithmetic.proofs.Bounds.{exactly, _⊗_, _⊕_, _⊘_}
-use Rattle.joint.specs.InRange.{InRange}
-use Rattle.joint.specs.declared.Joint.{Joint}
+use Rattle.joint.specs.InRange.{ColumnInRange, FaceInRange}
+use Rattle.joint.specs.declared.Face.{Face}
 use Rattle.joint.specs.declared.Column.{Column}
 use Rattle.joint.specs.declared.Beam.{Beam}
 use Rattle.joint.specs.declared.Plate.{Plate}
@@ -26,13 +26,13 @@ module _ (steel : SteelStrengths) (column : Column) (beam : Beam) (plate : Plate
   unfolding resistancesOf
   bearing-le = bearing-range .high
 
--- all that is asked of the parts, from the joint's fields
-pub parts-in-range : (joint : Joint) → InRange joint →
-    PartsInRange (steelStrengths (joint .column) (joint .face .beam) (joint .face .plate)) (joint .column) (joint .face .beam) (joint .face .plate) (joint .face .welds)
-parts-in-range joint r = record {
-  steel = steel-in-range (joint .column) (joint .face .beam) (joint .face .plate) (r .column) (r .face .beam) (r .face .plate);
-  column = r .column;
-  beam = r .face .beam;
-  plate = r .face .plate;
-  welds = r .face .welds;
+-- all that is asked of the parts, from fields in range
+pub parts-in-range : (column : Column) (face : Face) → ColumnInRange column → FaceInRange face →
+    PartsInRange (steelStrengths column (face .beam) (face .plate)) column (face .beam) (face .plate) (face .welds)
+parts-in-range column face c f = record {
+  steel = steel-in-range column (face .beam) (face .plate) c (f .beam) (f .plate);
+  column = c;
+  beam = f .beam;
+  plate = f .plate;
+  welds = f .welds;
 }

@@ -58,8 +58,8 @@ module _ (column : Column) (bolts : Bolts) (face : Face) (found : fieldCheck col
       let hs = face .levers in
       let after-fixed = getD-append-add (fixedChecks column bolts face) (leverChecks n 0 hs) row (0, true) in
       let test-at : test (fieldChecks column bolts face) (29 + row) ≡ within (levers n row) (getD hs row 0) =
-          ap (λ (check : Check). check .1) after-fixed ∙ lever-test n 0 hs row h
-          ∙ ap (λ (i : ℕ). within (levers n i) (getD hs row 0)) (zero-add row) in
+      ap (λ (check : Check). check .1) after-fixed ∙ lever-test n 0 hs row h
+      ∙ ap (λ (i : ℕ). within (levers n i) (getD hs row 0)) (zero-add row) in
       within-yes (levers n row) (getD hs row 0) (subst (λ (b : Bool). T b) test-at (held (29 + row)))
 
   pub in-range : InRange column bolts face

@@ -1,8 +1,8 @@
--- Reading a joint, case by case: what the runs of numbers that the code reads say of the definition, for each place where it stops.
+-- Reading a joint and writing one, case by case: what the definition gives for each place where the code stops.
 -- Assumes nothing.
 use Prim.Native.Nat.{ℕ, zero, suc, _-_, _≤_}
 use mathlib.Core.Path.{_≡_, refl, sym}
-use mathlib.Core.List.{List, _∷_, _++_}
+use mathlib.Core.List.{List, [], _∷_, _++_}
 use mathlib.Core.Bool.{true, false, and-eq-true-iff}
 use native.Mathlib.Omega.{arith}
 use native.Mathlib.Nat.{sub-zero, zero-sub}
@@ -10,17 +10,19 @@ use borrow.Author.Tests.{leb-true}
 use lib.Dec.{leb}
 use lib.ListN.{length, getD, take, drop, replicate, length-drop}
 use Rattle.arithmetic.specs.Range.{within}
+use Rattle.arithmetic.proofs.Checks.{holds, fails}
 use Rattle.joint.specs.Ranges.{rowCounts}
+use Rattle.joint.specs.Places.{eightPlaces}
 use Rattle.joint.specs.declared.Joint.{Joint}
-use Rattle.numbers.specs.Run.{RunRead, storedAll, allZero}
+use Rattle.numbers.specs.Run.{readNumbers, storedAll, allZero}
 use Rattle.numbers.specs.Parse.{got, refused}
-use Rattle.numbers.specs.Number.{NumberRead}
-use Rattle.numbers.specs.declared.number.Number.the-variants.{Value, Refused as NumberRefused}
-use Rattle.numbers.specs.declared.run.Run.the-variants.{Next, Refused}
+use Rattle.numbers.specs.Answers.{NumberRead}
+use Rattle.numbers.specs.declared.number.Number.the-variants.{Value, Refused}
 use Rattle.numbers.proofs.Sizes.{storedAll-append}
 use Rattle.fields.specs.Fields.{jointOf, fieldsOf}
-use Rattle.jointfile.specs.File.{eight, readOthers, readJoint, answer}
-use Rattle.jointfile.specs.Write.{fileOf, turnedDown, placed, writingRows, writing}
+use Rattle.jointfile.specs.File.{readOthers, readJoint, answer}
+use Rattle.jointfile.specs.Write.{fileOf, file, wrote, turnedDown, roomCheck, writing}
+use Rattle.jointfile.specs.Answers.{placed, writingRows}
 
 -- ---- the number of rows
 
@@ -36,25 +38,26 @@ drop-replicate (suc k) (suc n) =
     let less : suc n - suc k ≡ n - k = omega arith in
     rw less (drop-replicate k n)
 
-pub levers-eight : (rows : ℕ) (levers : List ℕ) → length levers ≡ rows → levers ++ drop rows (replicate 8 0) ≡ eight levers
+pub levers-eight : (rows : ℕ) (levers : List ℕ) → length levers ≡ rows → levers ++ drop rows (replicate 8 0) ≡ eightPlaces levers
+unfolding eightPlaces
 levers-eight rows levers e = rw (e, drop-replicate rows 8)
 
 -- ---- what follows field 1
 
-module _ {bytes : List ℕ} {from : ℕ} {others : List ℕ} (rows : ℕ) where
-  pub others-refused : {r : ℕ} → RunRead bytes from 28 others (Refused r) → readOthers rows (drop from bytes) ≡ refused r
+module _ (bytes : List ℕ) (rows : ℕ) where
+  pub others-refused : (r : ℕ) → refused r ≡ readNumbers 28 bytes → readOthers rows bytes ≡ refused r
   unfolding readOthers
-  others-refused read = rw (sym (read .told))
+  others-refused r e = rw (sym e)
 
-  module _ {at : ℕ} {levers : List ℕ} (read : RunRead bytes from 28 others (Next at)) where
-    pub levers-refused : {r : ℕ} → RunRead bytes at rows levers (Refused r) → readOthers rows (drop from bytes) ≡ refused r
+  module _ (others rest : List ℕ) (read : got others rest ≡ readNumbers 28 bytes) where
+    pub levers-refused : (r : ℕ) → refused r ≡ readNumbers rows rest → readOthers rows bytes ≡ refused r
     unfolding readOthers
-    levers-refused run = rw (sym (read .told), sym (run .told))
+    levers-refused r e = rw (sym read, sym e)
 
-    pub levers-got : {next : ℕ} → RunRead bytes at rows levers (Next next)
-        → readOthers rows (drop from bytes) ≡ got (jointOf (rows ∷ others) (eight levers)) (drop next bytes)
+    pub levers-got : (levers left : List ℕ) → got levers left ≡ readNumbers rows rest
+        → readOthers rows bytes ≡ got (jointOf (rows ∷ others) (eightPlaces levers)) left
     unfolding readOthers
-    levers-got run = rw (sym (read .told), sym (run .told))
+    levers-got levers left e = rw (sym read, sym e)
 
 -- the place after the joint, of the bytes left
 pub answer-got : (bytes : List ℕ) (joint : Joint) (next : ℕ) → next ≤ length bytes
@@ -66,18 +69,18 @@ answer-got bytes joint next within =
 -- ---- field 1
 
 module _ {bytes : List ℕ} where
-  pub first-refused : {r : ℕ} → NumberRead bytes 0 (NumberRefused r) → readJoint bytes ≡ refused r
+  pub first-refused : {r : ℕ} → NumberRead bytes 0 (Refused r) → readJoint bytes ≡ refused r
   unfolding readJoint
-  first-refused read = rw (sym (read .told))
+  first-refused read = rw (sym (read .means))
 
   module _ {rows next : ℕ} (read : NumberRead bytes 0 (Value rows next)) where
     pub rows-refused : within rowCounts rows ≡ false → readJoint bytes ≡ refused 3
     unfolding readJoint
-    rows-refused e = rw (sym (read .told), e)
+    rows-refused e = rw (sym (read .means), e)
 
     pub rows-taken : within rowCounts rows ≡ true → readJoint bytes ≡ readOthers rows (drop next bytes)
     unfolding readJoint
-    rows-taken e = rw (sym (read .told), e)
+    rows-taken e = rw (sym (read .means), e)
 
 -- ---- writing
 
@@ -88,19 +91,24 @@ first-field joint = refl
 module _ (fields : List ℕ) (rows : ℕ) (levers buffer : List ℕ) where
   pub writing-spare : allZero (drop rows levers) ≡ false → turnedDown buffer 6 ≡ writingRows fields rows levers buffer
   unfolding writingRows
-  writing-spare e = rw e
+  writing-spare e =
+      let bytes = fileOf fields rows levers in
+      sym (fails (wrote buffer bytes) (turnedDown buffer) 6 _ (roomCheck bytes buffer ∷ []) e)
 
   pub writing-file : allZero (drop rows levers) ≡ true
       → placed (storedAll fields ++ storedAll (take rows levers)) buffer ≡ writingRows fields rows levers buffer
-  unfolding writingRows fileOf
-  writing-file e = rw (e, storedAll-append)
+  unfolding fileOf placed writingRows
+  writing-file e =
+      let bytes = fileOf fields rows levers in
+      rw (← storedAll-append fields (take rows levers))
+      (sym (holds (wrote buffer bytes) (turnedDown buffer) 6 _ (roomCheck bytes buffer ∷ []) e))
 
 module _ (joint : Joint) (buffer : List ℕ) where
   pub writing-refused : within rowCounts (joint .face .rows) ≡ false → turnedDown buffer 3 ≡ writing joint buffer
   unfolding writing
-  writing-refused e = rw e
+  writing-refused e = sym (fails (wrote buffer (file joint)) (turnedDown buffer) 3 _ _ e)
 
   pub writing-rows : within rowCounts (joint .face .rows) ≡ true
       → writingRows (fieldsOf joint) (joint .face .rows) (joint .face .levers) buffer ≡ writing joint buffer
-  unfolding writing
-  writing-rows e = rw e
+  unfolding writing writingRows
+  writing-rows e = sym (holds (wrote buffer (file joint)) (turnedDown buffer) 3 _ _ e)

@@ -7,13 +7,16 @@ use native.Mathlib.Omega.{arith}
 use borrow.Author.Tests.{leb-true, le-leb}
 use lib.Dec.{leb}
 use lib.ListN.{length, getD, length-append}
+use Rattle.arithmetic.specs.Checks.{firstFailing}
+use Rattle.arithmetic.proofs.Checks.{fails}
 use Rattle.buffers.specs.Put.{atFront, Put}
 use Rattle.buffers.proofs.Puts.{sets-front}
 use Rattle.numbers.specs.Number.{stored}
 use Rattle.numbers.specs.Run.{storedAll}
 use Rattle.numbers.proofs.Codec.{groups-last}
 use Rattle.numbers.proofs.Sizes.{storedAll-short}
-use Rattle.jointfile.specs.Write.{turnedDown, placed}
+use Rattle.jointfile.specs.Write.{wrote, turnedDown}
+use Rattle.jointfile.specs.Answers.{FileParts, placed}
 
 -- a number below 128 takes one byte, and no number more than five
 first-short : (xs : List ℕ) → getD xs 0 0 ≤ 8 → length (storedAll xs) ≤ 1 + 5 * (length xs - 1)
@@ -23,19 +26,19 @@ first-short (x ∷ xs) few =
     let one : length (stored x) ≡ 1 = rw (groups-last 4 x (omega arith)) in
     rw length-append (omega (arith, storedAll-short xs))
 
-pub parts-fit : (xs ys : List ℕ) (room : ℕ) → length xs ≤ 29 → getD xs 0 0 ≤ 8 → length ys ≤ 8 → 181 ≤ room
-    → true ≡ leb (length (storedAll xs ++ storedAll ys)) room
-parts-fit xs ys room few first fewer wide =
-    sym (le-leb (length (storedAll xs ++ storedAll ys)) room (rw length-append (omega (arith, first-short xs first, storedAll-short ys))))
+pub parts-fit : (xs ys : List ℕ) (room : ℕ) → FileParts xs ys → 181 ≤ room → true ≡ leb (length (storedAll xs ++ storedAll ys)) room
+parts-fit xs ys room parts wide =
+    sym (le-leb (length (storedAll xs ++ storedAll ys)) room
+    (rw length-append (omega (arith, first-short xs (parts .rows), storedAll-short ys, parts .fields, parts .levers))))
 
 pub placed-short : (bytes buffer : List ℕ) → leb (length bytes) (length buffer) ≡ false → turnedDown buffer 5 ≡ placed bytes buffer
 unfolding placed
-placed-short bytes buffer short = simp short
+placed-short bytes buffer short = sym (fails (wrote buffer bytes) (turnedDown buffer) 5 _ [] short)
 
 -- bytes that are put from the front on, where there is room for them
 pub placed-put : {bytes buffer exit : List ℕ} {next : ℕ} → Put buffer 0 bytes exit next → leb (length bytes) (length buffer) ≡ true
     → record { refusal = 0; size = next; buffer = exit } ≡ placed bytes buffer
-unfolding placed
+unfolding placed firstFailing
 placed-put {bytes} {buffer} {exit} {next} put room =
     let fits = leb-true (length bytes) (length buffer) room in
     let size : next ≡ length bytes = omega (arith, put .place) in

@@ -8,22 +8,27 @@ use mathlib.Core.Logic.{⊎-elim}
 use native.Mathlib.Omega.{arith}
 use borrow.Author.Tests.{eqb-true}
 use lib.Dec.{leb, eqb}
-use lib.ListN.{length, getD, take, drop, replicate, length-append, length-take, length-drop, take-append-drop, List·getD-eq-default, length-replicate}
+use lib.ListN.{length, getD, take, drop, replicate, length-append, length-take, length-drop, length-replicate}
+use lib.ListN.{take-append-drop, List·getD-eq-default}
 use lib.Seq.{getD-take, length-take-le, take-at, drop-at}
+use Rattle.arithmetic.specs.Checks.{firstFailing}
 use Rattle.arithmetic.specs.Range.{within}
 use Rattle.arithmetic.proofs.Tests.{split}
 use Rattle.joint.specs.Ranges.{rowCounts}
+use Rattle.joint.specs.Places.{eightPlaces}
 use Rattle.joint.specs.declared.Joint.{Joint}
 use Rattle.numbers.specs.Run.{readNumbers, storedAll, allZero}
 use Rattle.numbers.specs.Parse.{got, refused, andThen}
 use Rattle.numbers.specs.Number.{stored, readNumber, Bytes}
-use Rattle.numbers.proofs.RunCodec.{read-storedAll, then-got, bytes-left, TakenAll, taken-all}
+use Rattle.numbers.proofs.Parsing.{then-got}
+use Rattle.numbers.proofs.RunCodec.{read-storedAll, bytes-left, TakenAll, taken-all}
 use Rattle.numbers.proofs.Codec.{read-stored, stored-read, number-small}
 use Rattle.numbers.proofs.Sizes.{storedAll-append}
 use Rattle.fields.specs.Fields.{jointOf, fieldsOf}
 use Rattle.fields.proofs.Order.{fields-joint, joint-fields}
-use Rattle.jointfile.specs.File.{eight, readOthers, readJoint}
-use Rattle.jointfile.specs.Write.{fileOf, file, spareZero, placed, writingRows, writing, Held, Writable}
+use Rattle.jointfile.specs.File.{readOthers, readJoint}
+use Rattle.jointfile.specs.Write.{fileOf, file, writing}
+use Rattle.jointfile.specs.Answers.{Held, Writable}
 use Rattle.jointfile.proofs.Answers.{row-count-most}
 
 -- ---- levers
@@ -37,7 +42,8 @@ zeros (x ∷ xs) e =
 
 -- the levers of the rows, with the spare ones
 eight-levers : (rows : ℕ) (levers : List ℕ) → length levers ≡ 8 → rows ≤ 8 → allZero (drop rows levers) ≡ true
-    → eight (take rows levers) ≡ levers
+    → eightPlaces (take rows levers) ≡ levers
+unfolding eightPlaces
 eight-levers rows levers long few spare =
     let count : 8 - length (take rows levers) ≡ length (drop rows levers) =
     simp (length-take, length-drop) (omega arith) in
@@ -69,7 +75,7 @@ zeros-zero (suc n) = zeros-zero n
 
 read-file : (rows : ℕ) (others levers left : List ℕ) → within rowCounts rows ≡ true → length others ≡ 28 → length levers ≡ rows
     → rows < 2 ^ 32 → ((k : ℕ) → getD others k 0 < 2 ^ 32) → ((k : ℕ) → getD levers k 0 < 2 ^ 32)
-    → readJoint (storedAll ((rows ∷ others) ++ levers) ++ left) ≡ got (jointOf (rows ∷ others) (eight levers)) left
+    → readJoint (storedAll ((rows ∷ others) ++ levers) ++ left) ≡ got (jointOf (rows ∷ others) (eightPlaces levers)) left
 unfolding readJoint readOthers storedAll
 read-file rows others levers left count long each small smalls smalls′ =
     let fields = read-storedAll others smalls (storedAll levers ++ left) in
@@ -84,17 +90,21 @@ reads-back joint held writable left =
     let rows = joint .face .rows in
     let levers = joint .face .levers in
     let few : rows ≤ 8 = row-count-most rows (writable .rows) in
-    read-file rows (drop 1 (fieldsOf joint)) (take rows levers) left (writable .rows) refl (length-take-le rows levers (omega (arith, held .eight)))
+    read-file rows (drop 1 (fieldsOf joint)) (take rows levers) left (writable .rows) refl
+    (length-take-le rows levers (omega (arith, held .eight)))
     (held .fields 0) (λ k. held .fields (suc k)) (take-small rows levers (held .levers))
     ∙ ap (λ (j : Joint). got j left)
     (ap (jointOf (fieldsOf joint)) (eight-levers rows levers (held .eight) few (writable .spare)) ∙ joint-fields joint)
 
 -- A joint that is refused for neither 3 nor 6, whatever the buffer.
-pub writable : (joint : Joint) (buffer : List ℕ) → (writing joint buffer .refusal ≡ 3 → ⊥) → (writing joint buffer .refusal ≡ 6 → ⊥) → Writable joint
-unfolding writing writingRows
-writable joint buffer not-3 not-6 = go (within rowCounts (joint .face .rows)) refl (spareZero joint) refl
+pub writable : (joint : Joint) (buffer : List ℕ) → (writing joint buffer .refusal ≡ 3 → ⊥) → (writing joint buffer .refusal ≡ 6 → ⊥)
+    → Writable joint
+unfolding writing firstFailing
+writable joint buffer not-3 not-6 =
+    go (within rowCounts (joint .face .rows)) refl (allZero (drop (joint .face .rows) (joint .face .levers))) refl
   where
-    go : (t : Bool) → within rowCounts (joint .face .rows) ≡ t → (u : Bool) → spareZero joint ≡ u → Writable joint
+    go : (t : Bool) → within rowCounts (joint .face .rows) ≡ t → (u : Bool) → allZero (drop (joint .face .rows) (joint .face .levers)) ≡ u
+        → Writable joint
     go true rows true spare = record { rows = rows; spare = spare }
     go true rows false spare = absurd (not-6 (rw (rows, spare)))
     go false rows u spare = absurd (not-3 (rw rows))
@@ -102,7 +112,7 @@ writable joint buffer not-3 not-6 = go (within rowCounts (joint .face .rows)) re
 -- What the buffer holds after `write` reads back to the joint, and leaves what was in the buffer past the file.
 pub written-back : (joint : Joint) (buffer : List ℕ) → Held joint → writing joint buffer .refusal ≡ 0
     → readJoint (writing joint buffer .buffer) ≡ got joint (drop (writing joint buffer .size) buffer)
-unfolding writing writingRows placed
+unfolding writing firstFailing
 written-back joint buffer held none = go (leb (length (file joint)) (length buffer)) refl
   where
     taken : Writable joint
@@ -125,17 +135,17 @@ pub record Took (bytes : List ℕ) (joint : Joint) (left : List ℕ) : Type 0 wh
 
 module _ (rows : ℕ) (others levers bytes bytes₁ bytes₂ left : List ℕ) (count : within rowCounts rows ≡ true) (small : rows < 2 ^ 32)
     (first : stored rows ++ bytes₁ ≡ bytes) (taken : TakenAll bytes₁ 28 others bytes₂) (taken′ : TakenAll bytes₂ rows levers left) where
-  same-fields : fieldsOf (jointOf (rows ∷ others) (eight levers)) ≡ rows ∷ others
-  same-fields = fields-joint (rows ∷ others) (eight levers) (ap suc (taken .long))
+  same-fields : fieldsOf (jointOf (rows ∷ others) (eightPlaces levers)) ≡ rows ∷ others
+  same-fields = fields-joint (rows ∷ others) (eightPlaces levers) (ap suc (taken .long))
 
-  same-file : file (jointOf (rows ∷ others) (eight levers)) ≡ storedAll ((rows ∷ others) ++ levers)
-  unfolding fileOf jointOf
+  same-file : file (jointOf (rows ∷ others) (eightPlaces levers)) ≡ storedAll ((rows ∷ others) ++ levers)
+  unfolding fileOf jointOf eightPlaces
   same-file =
       ap₂ (λ (xs ys : List ℕ). storedAll (xs ++ ys)) same-fields
       (take-at levers (replicate (8 - length levers) 0) rows (taken′ .long))
 
-  took : Took bytes (jointOf (rows ∷ others) (eight levers)) left
-  unfolding jointOf storedAll
+  took : Took bytes (jointOf (rows ∷ others) (eightPlaces levers)) left
+  unfolding jointOf storedAll eightPlaces
   took =
       let few : rows ≤ 8 = row-count-most rows count in
       record {
@@ -154,18 +164,20 @@ module _ (rows : ℕ) (others levers bytes bytes₁ bytes₂ left : List ℕ) (c
       }
 
 -- field 1 was read, and then the rest
-took-others : (bytes : List ℕ) (rows : ℕ) (bytes₁ : List ℕ) (joint : Joint) (left : List ℕ) → Bytes bytes → readNumber bytes ≡ got rows bytes₁
-    → within rowCounts rows ≡ true → readOthers rows bytes₁ ≡ got joint left → Took bytes joint left
+took-others : (bytes : List ℕ) (rows : ℕ) (bytes₁ : List ℕ) (joint : Joint) (left : List ℕ) → Bytes bytes
+    → readNumber bytes ≡ got rows bytes₁ → within rowCounts rows ≡ true → readOthers rows bytes₁ ≡ got joint left → Took bytes joint left
 unfolding readOthers
 took-others bytes rows bytes₁ joint left all first count e =
     let (others, bytes₂, read, e₁) =
-    then-got (readNumbers 28 bytes₁) (λ others rest. andThen (readNumbers rows rest) (λ levers end. got (jointOf (rows ∷ others) (eight levers)) end)) joint left e in
-    let (levers, end, read′, e₂) = then-got (readNumbers rows bytes₂) (λ levers end. got (jointOf (rows ∷ others) (eight levers)) end) joint left e₁ in
+    then-got (readNumbers 28 bytes₁)
+    (λ others rest. andThen (readNumbers rows rest) (λ levers end. got (jointOf (rows ∷ others) (eightPlaces levers)) end)) joint left e in
+    let (levers, end, read′, e₂) =
+    then-got (readNumbers rows bytes₂) (λ levers end. got (jointOf (rows ∷ others) (eightPlaces levers)) end) joint left e₁ in
     let form = stored-read bytes rows bytes₁ all first in
     let all₁ = bytes-left (stored rows) bytes₁ bytes form all in
     let taken = taken-all 28 bytes₁ others bytes₂ all₁ read in
     let taken′ = taken-all rows bytes₂ levers end (bytes-left (storedAll others) bytes₂ bytes₁ (taken .form) all₁) read′ in
-    let is : jointOf (rows ∷ others) (eight levers) ≡ joint = cc in
+    let is : jointOf (rows ∷ others) (eightPlaces levers) ≡ joint = cc in
     let ends : end ≡ left = cc in
     subst₂ (λ (j : Joint) (rest : List ℕ). Took bytes j rest) is ends
     (took rows others levers bytes bytes₁ bytes₂ end count (number-small bytes rows bytes₁ all first) form taken taken′)

@@ -1,11 +1,12 @@
 -- Reading a joint file (document 01, Read): field 1, the other 28 fields and a lever for each row, one number after another, with the
 -- refusal of the first trouble; and what is left after it. Assumes nothing.
 use Prim.Native.Nat.{ℕ, _-_}
-use mathlib.Core.List.{List, [], _∷_, _++_}
+use mathlib.Core.List.{List, [], _∷_}
 use mathlib.Core.Bool.{cond}
 use lib.ListN.{length, replicate}
 use Rattle.arithmetic.specs.Range.{within}
 use Rattle.joint.specs.Ranges.{rowCounts}
+use Rattle.joint.specs.Places.{eightPlaces}
 use Rattle.joint.specs.declared.Joint.{Joint}
 use Rattle.numbers.specs.Parse.{Parse, got, refused, andThen}
 use Rattle.numbers.specs.Number.{readNumber}
@@ -13,15 +14,11 @@ use Rattle.numbers.specs.Run.{readNumbers}
 use Rattle.fields.specs.Fields.{jointOf}
 use Rattle.jointfile.specs.declared.Reading.{Reading}
 
--- the levers of the rows, and 0 for each spare one up to eight
-abbrev pub eight : List ℕ → List ℕ
-eight levers = levers ++ replicate (8 - length levers) 0
-
 -- what follows field 1: fields 2 to 29, and the levers of the rows
 unfoldable pub readOthers : ℕ → List ℕ → Parse Joint
 readOthers rows bytes =
     andThen (readNumbers 28 bytes)
-    (λ others left. andThen (readNumbers rows left) (λ levers rest. got (jointOf (rows ∷ others) (eight levers)) rest))
+    (λ others left. andThen (readNumbers rows left) (λ levers rest. got (jointOf (rows ∷ others) (eightPlaces levers)) rest))
 
 -- A joint: 3 is told when field 1 is read, before anything of field 2 is; no other range is looked at.
 unfoldable pub readJoint : List ℕ → Parse Joint

@@ -5,6 +5,7 @@
 use fields::fields_of;
 use fields::joint_of;
 use joint::Joint;
+use joint::is_row_count;
 use numbers::number::Number;
 use numbers::number::number_at;
 use numbers::number::refusal_of;
@@ -19,12 +20,11 @@ ghost use mathlib.Core.Path.{_≡_};
 ghost use mathlib.Core.List.{_++_};
 ghost use lib.Dec.{leb};
 ghost use lib.ListN.{length, getD, drop};
-ghost use Rattle.arithmetic.specs.Range.{within};
-ghost use Rattle.joint.specs.Ranges.{rowCounts};
 ghost use Rattle.numbers.specs.Parse.{refused};
 ghost use Rattle.numbers.specs.Run.{storedAll};
 ghost use Rattle.jointfile.specs.File.{readOthers, answer, reading, restOf};
-ghost use Rattle.jointfile.specs.Write.{placed, writingRows, writing, writtenTold};
+ghost use Rattle.jointfile.specs.Write.{writing};
+ghost use Rattle.jointfile.specs.Answers.{writtenMeaning, placed, writingRows, FileParts};
 
 // What `read` answers.
 pub struct Reading {
@@ -34,13 +34,6 @@ pub struct Reading {
     pub joint: Joint,
     // the place after the joint, or the end of the bytes in a refusal
     pub next: usize,
-}
-
-// Whether a joint may have so many rows.
-fn is_row_count(rows: u32) -> bool
-    ensures { λ r. ⌜ r ≡ within rowCounts rows ⌝ }
-{
-    (1 <= rows) & (rows <= 8)
 }
 
 // What a refusal answers.
@@ -88,7 +81,7 @@ pub fn read(bytes: &[u8]) -> Reading
     let Number::Value { value, next } = first else {
         return no_joint(refusal_of(first), bytes.len());
     };
-    if is_row_count(value) {
+    if is_row_count(value as usize) {
         return read_others(bytes, value, next);
     }
     no_joint(3, bytes.len())
@@ -114,7 +107,7 @@ const LONGEST_FILE: usize = 181;
 
 // Whether so many places hold the file. Only a buffer that is shorter than the longest file asks for measuring.
 fn has_room(fields: &[u32], levers: &[u32], room: usize) -> bool
-    requires { ⌜ (length (now fields) ≤ 29) × (getD (now fields) 0 0 ≤ 8) × (length (now levers) ≤ 8) ⌝ }
+    requires { ⌜ FileParts (now fields) (now levers) ⌝ }
     ensures { λ r. ⌜ r ≡ leb (length (storedAll (now (fields .entry)) ++ storedAll (now (levers .entry)))) room ⌝ }
 {
     if LONGEST_FILE <= room {
@@ -125,8 +118,9 @@ fn has_room(fields: &[u32], levers: &[u32], room: usize) -> bool
 
 // Puts the file into the buffer, if there is room for it.
 fn put_file(fields: &[u32], levers: &[u32], buffer: &mut [u8]) -> Written
-    requires { ⌜ (length (now fields) ≤ 29) × (getD (now fields) 0 0 ≤ 8) × (length (now levers) ≤ 8) ⌝ }
-    ensures { λ r. ⌜ writtenTold r (now (buffer .exit)) ≡ placed (storedAll (now (fields .entry)) ++ storedAll (now (levers .entry))) (now (buffer .entry)) ⌝ }
+    requires { ⌜ FileParts (now fields) (now levers) ⌝ }
+    ensures { λ r. ⌜ writtenMeaning r (now (buffer .exit))
+        ≡ placed (storedAll (now (fields .entry)) ++ storedAll (now (levers .entry))) (now (buffer .entry)) ⌝ }
 {
     if has_room(fields, levers, buffer.len()) {
         let at = put_numbers(buffer, 0, fields);
@@ -139,7 +133,7 @@ fn put_file(fields: &[u32], levers: &[u32], buffer: &mut [u8]) -> Written
 // Writes the file of a joint whose row count is right: 6 is tried before 5.
 fn write_rows(fields: [u32; 29], rows: u32, levers: [u32; 8], buffer: &mut [u8]) -> Written
     requires { ⌜ (rows ≤ 8) × (getD fields 0 0 ≤ 8) ⌝ }
-    ensures { λ r. ⌜ writtenTold r (now (buffer .exit)) ≡ writingRows fields rows levers (now (buffer .entry)) ⌝ }
+    ensures { λ r. ⌜ writtenMeaning r (now (buffer .exit)) ≡ writingRows fields rows levers (now (buffer .entry)) ⌝ }
 {
     let count = rows as usize;
     if all_zero(&levers[count..]) {
@@ -150,12 +144,12 @@ fn write_rows(fields: [u32; 29], rows: u32, levers: [u32; 8], buffer: &mut [u8])
 
 // Writes a joint's file to the front of the buffer: 3 is tried first.
 pub fn write(joint: Joint, buffer: &mut [u8]) -> Written
-    ensures { λ r. ⌜ writtenTold r (now (buffer .exit)) ≡ writing joint (now (buffer .entry)) ⌝ }
+    ensures { λ r. ⌜ writtenMeaning r (now (buffer .exit)) ≡ writing joint (now (buffer .entry)) ⌝ }
 {
     let face = joint.face;
     let rows = face.rows;
     let levers = face.levers;
-    if is_row_count(rows) {
+    if is_row_count(rows as usize) {
         let fields = fields_of(joint);
         return write_rows(fields, rows, levers, buffer);
     }

@@ -21,7 +21,8 @@ not-over before byte fine =
 -- no highest group of 0 above others
 not-longer : (before byte : ℕ) → (0 < before → 0 < byte) → (ltb 0 before && eqb byte 0) ≡ false
 not-longer before byte pos =
-    ⊎-elim (λ h. let p : 0 < byte = pos h in simp (lt-ltb 0 before h, ne-eqb byte 0 (λ e. omega arith))) (λ h. simp (le-ltb 0 before h)) (split 0 before)
+    ⊎-elim (λ h. let p : 0 < byte = pos h in simp (lt-ltb 0 before h, ne-eqb byte 0 (λ e. omega arith)))
+    (λ h. simp (le-ltb 0 before h)) (split 0 before)
 
 -- a last group
 read-last : (before x : ℕ) (left : List ℕ) → x < 128 → (4 ≤ before → x ≤ 15) → (0 < before → 0 < x)

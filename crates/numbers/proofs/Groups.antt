@@ -14,7 +14,8 @@ use lib.ListN.{length, getD, drop, drop-of-length-le}
 use lib.Seq.{drop-cons}
 use Rattle.arithmetic.proofs.Tests.{split}
 use Rattle.numbers.specs.Parse.{Parse, got, refused}
-use Rattle.numbers.specs.Number.{above, readGroups, readNumber, NumberRead}
+use Rattle.numbers.specs.Number.{above, readGroups, readNumber}
+use Rattle.numbers.specs.Answers.{NumberRead}
 use Rattle.numbers.specs.declared.number.Number.the-variants.{Value, Refused}
 
 -- nothing read yet
@@ -73,7 +74,7 @@ pub answer-cut : (bytes : List ℕ) (from at scale value : ℕ) → Head bytes f
     → NumberRead bytes from (Refused 1)
 unfolding readGroups
 answer-cut bytes from at scale value head outside =
-    record { told = sym (head .reads ∙ rw (drop-of-length-le bytes outside)); within = omega arith }
+    record { means = sym (head .reads ∙ rw (drop-of-length-le bytes outside)); within = omega arith }
 
 -- A turn: the byte at `at` is read.
 pub record Turn (bytes : List ℕ) (from at scale value byte : ℕ) : Type 0 where
@@ -91,7 +92,7 @@ module _ {bytes : List ℕ} {from at scale value byte : ℕ} (turn : Turn bytes 
   -- a fifth byte above 15
   pub answer-over : (leb 4 (at - from) && ltb 15 byte) ≡ true → NumberRead bytes from (Refused 2)
   unfolding readGroups
-  answer-over over = record { told = sym (turn .head .reads ∙ rw starts (simp over)); within = omega (arith, turn .inside) }
+  answer-over over = record { means = sym (turn .head .reads ∙ rw starts (simp over)); within = omega (arith, turn .inside) }
 
   module _ (fine : (leb 4 (at - from) && ltb 15 byte) ≡ false) where
     -- a last byte fits with the value so far
@@ -103,14 +104,18 @@ module _ {bytes : List ℕ} {from at scale value byte : ℕ} (turn : Turn bytes 
     -- a last byte of 0 above others
     pub answer-longer : byte < 128 → (ltb 0 (at - from) && eqb byte 0) ≡ true → NumberRead bytes from (Refused 2)
     unfolding readGroups
-    answer-longer last longer = record { told = sym (turn .head .reads ∙ rw starts (simp (fine, lt-ltb _ _ last, longer))); within = omega (arith, turn .inside) }
+    answer-longer last longer =
+        record { means = sym (turn .head .reads ∙ rw starts (simp (fine, lt-ltb _ _ last, longer))); within = omega (arith, turn .inside) }
 
     -- the last byte of a shortest form
     pub answer-value : byte < 128 → (ltb 0 (at - from) && eqb byte 0) ≡ false
         → NumberRead bytes from (Value (value + scale * byte) (at + 1))
     unfolding readGroups
     answer-value last shortest =
-        record { told = sym (turn .head .reads ∙ rw starts (simp (fine, lt-ltb _ _ last, shortest))); within = omega (arith, turn .inside) }
+        record {
+          means = sym (turn .head .reads ∙ rw starts (simp (fine, lt-ltb _ _ last, shortest)));
+          within = omega (arith, turn .inside);
+        }
 
     module _ (follows : 128 ≤ byte) where
       -- where more follow, this is not the fifth
@@ -122,8 +127,8 @@ module _ {bytes : List ℕ} {from at scale value byte : ℕ} (turn : Turn bytes 
 
       pub more-fits : value + scale * (byte - 128) < 2 ^ 32
       more-fits =
-          in-32-bits (at - from) scale value (byte - 128) (turn .head .few) (turn .head .scales) (turn .head .small) (omega (arith, turn .whole))
-          (λ h. absurd (omega (arith, early)))
+          in-32-bits (at - from) scale value (byte - 128) (turn .head .few) (turn .head .scales) (turn .head .small)
+          (omega (arith, turn .whole)) (λ h. absurd (omega (arith, early)))
 
       pub scale-fits : scale * 128 < 2 ^ 32
       scale-fits =

@@ -58,7 +58,8 @@ module _ {buffer₀ : List ℕ} {from x : ℕ} {buffer : List ℕ} {at left : �
 -- ---- runs of numbers
 
 -- the numbers from `i` on are one number and those after it
-pub stored-next : (values : List ℕ) (i : ℕ) → i < length values → storedAll (drop i values) ≡ stored (getD values i 0) ++ storedAll (drop (i + 1) values)
+pub stored-next : (values : List ℕ) (i : ℕ) → i < length values
+    → storedAll (drop i values) ≡ stored (getD values i 0) ++ storedAll (drop (i + 1) values)
 unfolding storedAll
 stored-next values i inside = rw (add-one, drop-cons values i 0)
 
@@ -90,7 +91,8 @@ module _ {buffer₀ : List ℕ} {from : ℕ} {values buffer : List ℕ} {at i : 
     pub puts-room : from + length (storedAll values) ≤ length buffer₀ → at + length (stored (getD values i 0)) ≤ length buffer
     puts-room room = omega (arith, size-next values i inside, head .place, head .holds)
 
-    pub puts-more : {exit : List ℕ} {next : ℕ} → Put buffer at (stored (getD values i 0)) exit next → PutsHead buffer₀ from values exit next (i + 1)
+    pub puts-more : {exit : List ℕ} {next : ℕ} → Put buffer at (stored (getD values i 0)) exit next
+        → PutsHead buffer₀ from values exit next (i + 1)
     puts-more put =
         let x = getD values i 0 in
         record {
@@ -104,7 +106,8 @@ module _ {buffer₀ : List ℕ} {from : ℕ} {values buffer : List ℕ} {at i : 
 
 -- ---- numbers that are all 0
 
-pub zero-next : (values : List ℕ) (i : ℕ) → i < length values → getD values i 0 ≡ 0 → allZero (drop i values) ≡ allZero (drop (i + 1) values)
+pub zero-next : (values : List ℕ) (i : ℕ) → i < length values → getD values i 0 ≡ 0
+    → allZero (drop i values) ≡ allZero (drop (i + 1) values)
 unfolding allZero
 zero-next values i inside e = rw (add-one, drop-cons values i 0, e)
 

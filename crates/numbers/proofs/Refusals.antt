@@ -14,17 +14,17 @@ Numbered (got a left) = Unit {0}
 Numbered (refused r) = 0 < r
 
 pub numbered-cond : {A : Type 0} (t : Bool) (one other : Parse A) → Numbered one → Numbered other → Numbered (cond t one other)
-numbered-cond true one other told told′ = told
-numbered-cond false one other told told′ = told′
+numbered-cond true one other first second = first
+numbered-cond false one other first second = second
 
-pub numbered-then : {A B : Type 0} (outcome : Parse A) (next : A → List ℕ → Parse B) → Numbered outcome
-    → ((a : A) (rest : List ℕ) → Numbered (next a rest)) → Numbered (andThen outcome next)
-numbered-then (got a rest) next told tells = tells a rest
-numbered-then (refused r) next told tells = told
+pub numbered-then : {A B : Type 0} (parse : Parse A) (next : A → List ℕ → Parse B) → Numbered parse
+    → ((a : A) (rest : List ℕ) → Numbered (next a rest)) → Numbered (andThen parse next)
+numbered-then (got a rest) next first second = second a rest
+numbered-then (refused r) next first second = first
 
-numbered-above : (scale low : ℕ) (outcome : Parse ℕ) → Numbered outcome → Numbered (above scale low outcome)
-numbered-above scale low (got x rest) told = tt
-numbered-above scale low (refused r) told = told
+numbered-above : (scale low : ℕ) (parse : Parse ℕ) → Numbered parse → Numbered (above scale low parse)
+numbered-above scale low (got x rest) first = tt
+numbered-above scale low (refused r) first = first
 
 pub numbered-number : (before : ℕ) (bytes : List ℕ) → Numbered (readGroups before bytes)
 unfolding readGroups

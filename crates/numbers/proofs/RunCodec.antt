@@ -6,9 +6,10 @@ use mathlib.Core.List.{List, [], _∷_, _++_, append-assoc}
 use native.Mathlib.Omega.{arith}
 use lib.ListN.{length, getD}
 use lib.Seq.{getD-append-add}
-use Rattle.numbers.specs.Parse.{Parse, got, refused, andThen}
+use Rattle.numbers.specs.Parse.{got, andThen}
 use Rattle.numbers.specs.Number.{stored, readNumber, Bytes}
 use Rattle.numbers.specs.Run.{readNumbers, storedAll}
+use Rattle.numbers.proofs.Parsing.{then-got}
 use Rattle.numbers.proofs.Codec.{read-stored, stored-read, number-small}
 
 pub read-storedAll : (xs : List ℕ) → ((k : ℕ) → getD xs k 0 < 2 ^ 32) → (left : List ℕ)
@@ -17,12 +18,6 @@ unfolding storedAll readNumbers
 read-storedAll [] small left = refl
 read-storedAll (x ∷ xs) small left =
     rw (append-assoc, read-stored x (small 0), read-storedAll xs (λ k. small (suc k)) left)
-
--- one thing read after another: what the first gave, and what the second gave of it
-pub then-got : {A B : Type 0} (outcome : Parse A) (next : A → List ℕ → Parse B) (b : B) (left : List ℕ) → andThen outcome next ≡ got b left
-    → (a : A) × (rest : List ℕ) × (outcome ≡ got a rest) × (next a rest ≡ got b left)
-then-got (got a rest) next b left e = (a, rest, refl, e)
-then-got (refused r) next b left e = let z : _≡_ {A = ℕ} 0 1 = cc in absurd (omega arith)
 
 pub bytes-left : (taken left bytes : List ℕ) → taken ++ left ≡ bytes → Bytes bytes → Bytes left
 bytes-left taken left bytes e all k = rw (← getD-append-add taken left k 0, e) (all (length taken + k))
@@ -50,7 +45,8 @@ taken-all zero bytes xs left all e =
     let whole : bytes ≡ left = cc in
     rw (← none, ← whole) (record { form = refl; long = refl; small = λ k. omega arith })
 taken-all (suc count) bytes xs left all e =
-    let (x, after-x, first, e₁) = then-got (readNumber bytes) (λ x rest. andThen (readNumbers count rest) (λ ys end. got (x ∷ ys) end)) xs left e in
+    let (x, after-x, first, e₁) =
+    then-got (readNumber bytes) (λ x rest. andThen (readNumbers count rest) (λ ys end. got (x ∷ ys) end)) xs left e in
     let (ys, end, others, e₂) = then-got (readNumbers count after-x) (λ ys end. got (x ∷ ys) end) xs left e₁ in
     let form = stored-read bytes x after-x all first in
     let is : x ∷ ys ≡ xs = cc in

@@ -1,5 +1,6 @@
--- What a number of a joint file is, and a run of them: the outcome of reading, one number, and numbers one after another.
--- The definitions compute, and assume nothing.
+-- Document 01's own: what reading gives (`Parse`), a number (`Number`), and numbers one after another (`Run`).
 pub mod Parse
 pub mod Number
 pub mod Run
+-- What serves the code: what its answers mean (`Answers`).
+pub mod Answers

@@ -1,14 +1,11 @@
 -- Numbers of a joint file (document 01, Read, on numbers and on refusals 1 and 2): the stored form of a number, and what reading one
 -- gives. Both go group by group from the lowest. Assumes nothing.
-use Prim.Native.Nat.{ℕ, zero, suc, _+_, _-_, _*_, _/_, _%_, _≤_, _<_}
-use mathlib.Core.Path.{_≡_}
+use Prim.Native.Nat.{ℕ, zero, suc, _+_, _-_, _*_, _/_, _%_, _<_}
 use mathlib.Core.List.{List, [], _∷_}
 use mathlib.Core.Bool.{cond, _&&_}
 use lib.Dec.{leb, ltb, eqb}
-use lib.ListN.{length, getD, drop}
+use lib.ListN.{getD}
 use Rattle.numbers.specs.Parse.{Parse, got, refused}
-use Rattle.numbers.specs.declared.number.Number.{Number}
-use Rattle.numbers.specs.declared.number.Number.the-variants.{Value, Refused}
 
 -- The seven-bit groups of a number, the lowest first, 128 added to each that more follow; at most so many.
 unfoldable pub groups : ℕ → ℕ → List ℕ
@@ -37,26 +34,6 @@ readGroups before (byte ∷ left) =
 
 abbrev pub readNumber : List ℕ → Parse ℕ
 readNumber bytes = readGroups 0 bytes
-
--- What each case of the enum `Number` says of the bytes: the value with the bytes from the next place on, or document 01's number.
-abbrev pub numberTold : List ℕ → Number → Parse ℕ
-numberTold bytes (Value x next) = got x (drop next bytes)
-numberTold bytes (Refused r) = refused r
-
--- the next place, where there is one
-abbrev pub nextPlace : Number → ℕ
-nextPlace (Value x next) = next
-nextPlace (Refused r) = 0
-
--- document 01's number of a refusal, and 0 of a number
-abbrev pub refusalNumber : Number → ℕ
-refusalNumber (Value x next) = 0
-refusalNumber (Refused r) = r
-
--- The answer to reading a number at a place: it says what the definition gives there, and its next place lies in the bytes.
-pub record NumberRead (bytes : List ℕ) (from : ℕ) (answer : Number) : Type 0 where
-  pub told : numberTold bytes answer ≡ readNumber (drop from bytes)
-  pub within : nextPlace answer ≤ length bytes
 
 -- a list of bytes
 abbrev pub Bytes : List ℕ → Type 0

@@ -1,15 +1,11 @@
--- Runs of numbers (document 01, Read and Write): so many read one after another, their stored forms one after another, and what is
--- said of the code that reads them. Assumes nothing.
-use Prim.Native.Nat.{ℕ, zero, suc, _≤_}
-use mathlib.Core.Path.{_≡_}
+-- Runs of numbers (document 01, Read and Write): so many read one after another, and their stored forms one after another.
+-- Assumes nothing.
+use Prim.Native.Nat.{ℕ, zero, suc}
 use mathlib.Core.List.{List, [], _∷_, _++_}
 use mathlib.Core.Bool.{Bool, true, _&&_}
 use lib.Dec.{eqb}
-use lib.ListN.{length, drop}
-use Rattle.numbers.specs.Parse.{Parse, got, refused, andThen}
+use Rattle.numbers.specs.Parse.{Parse, got, andThen}
 use Rattle.numbers.specs.Number.{stored, readNumber}
-use Rattle.numbers.specs.declared.run.Run.{Run}
-use Rattle.numbers.specs.declared.run.Run.the-variants.{Next, Refused}
 
 -- so many numbers, one after another
 unfoldable pub readNumbers : ℕ → List ℕ → Parse (List ℕ)
@@ -26,24 +22,3 @@ storedAll (x ∷ xs) = stored x ++ storedAll xs
 unfoldable pub allZero : List ℕ → Bool
 allZero [] = true
 allZero (x ∷ xs) = eqb x 0 && allZero xs
-
--- What each case of the enum `Run` says, where the numbers that were read stand in `values`.
-abbrev pub runTold : List ℕ → List ℕ → Run → Parse (List ℕ)
-runTold bytes values (Next next) = got values (drop next bytes)
-runTold bytes values (Refused r) = refused r
-
--- the place after the run, where it was read
-abbrev pub endPlace : Run → ℕ
-endPlace (Next next) = next
-endPlace (Refused r) = 0
-
--- document 01's number of a refusal, and 0 of a run that was read
-abbrev pub runRefusal : Run → ℕ
-runRefusal (Next next) = 0
-runRefusal (Refused r) = r
-
--- The answer to reading a run of numbers at a place: it says what the definition gives there, and from a place in the bytes it goes to
--- another.
-pub record RunRead (bytes : List ℕ) (from count : ℕ) (values : List ℕ) (run : Run) : Type 0 where
-  pub told : runTold bytes values run ≡ readNumbers count (drop from bytes)
-  pub within : from ≤ length bytes → endPlace run ≤ length bytes

@@ -3,7 +3,8 @@ ghost use mathlib.Core.Path.{_≡_};
 ghost use Prim.Native.Nat.{_+_, _≤_};
 ghost use lib.ListN.{length};
 ghost use Rattle.buffers.specs.Put.{Put};
-ghost use Rattle.numbers.specs.Number.{stored, NumberRead, refusalNumber};
+ghost use Rattle.numbers.specs.Number.{stored};
+ghost use Rattle.numbers.specs.Answers.{NumberRead, refusalNumber};
 
 // What reading a number answers: its value with the place after its last byte, or document 01's refusal number.
 pub enum Number {

@@ -8,7 +8,8 @@ ghost use Prim.Native.Nat.{_+_, _≤_};
 ghost use mathlib.Core.Path.{_≡_};
 ghost use lib.ListN.{length};
 ghost use Rattle.buffers.specs.Put.{Put};
-ghost use Rattle.numbers.specs.Run.{RunRead, runRefusal, allZero, storedAll};
+ghost use Rattle.numbers.specs.Run.{allZero, storedAll};
+ghost use Rattle.numbers.specs.Answers.{RunRead, runRefusal};
 
 // What reading a run answers: the place after its last number, or the refusal of the first that can't be read.
 pub enum Run {
@@ -16,9 +17,9 @@ pub enum Run {
     Refused(u32),
 }
 
-// Fills `values` with the numbers that begin at `from`.
+// Fills `values` with the numbers that begin at `from`, as far as they can be read.
 pub fn numbers_at(bytes: &[u8], from: usize, values: &mut [u32]) -> Run
-    ensures { λ r. ⌜ RunRead (now (bytes .entry)) from (length (now (values .entry))) (now (values .exit)) r ⌝ }
+    ensures { λ r. ⌜ RunRead (now (bytes .entry)) from (now (values .entry)) (now (values .exit)) r ⌝ }
 {
     let mut at = from;
     let mut i = 0;

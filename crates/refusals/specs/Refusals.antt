@@ -1,13 +1,11 @@
--- Work's refusals after 10, each as a test (document 01, 'Work'). Rows count from 0.
+-- Refusals 11, 12 and 13 of Work, each as a test (document 01, 'Work'). Rows count from 0.
 -- Assumes nothing.
-use Prim.Native.Nat.{ℕ, _-_, _*_, _≤_}
+use Prim.Native.Nat.{ℕ, _-_, _*_}
 use mathlib.Core.Bool.{Bool, cond, _&&_, _||_}
 use mathlib.Core.List.{List}
 use lib.Dec.{ltb, eqb}
 use lib.ListN.{getD, take}
-use Rattle.arithmetic.specs.Range.{Within}
 use Rattle.arithmetic.specs.Table.{every}
-use Rattle.joint.specs.Ranges.{depths, flanges}
 use Rattle.joint.specs.declared.Face.{Face}
 use Rattle.spacing.specs.declared.Spacing.{Spacing}
 
@@ -20,13 +18,13 @@ leversFall face = every (belowAbove (face .levers)) 0 (take (face .rows) (face .
 
 -- 12 'a row out of place: extended row 1 needs 2h > 2Db − Tb, every other row 2h < 2Db − 3Tb': rows above the first one under the
 -- flange, 0 if flush and 1 if extended, are held against `over`, the others against `under`
-abbrev pub between : (first over under row lever : ℕ) → Bool
-between first over under row lever = cond (ltb row first) (ltb over (2 * lever)) (ltb (2 * lever) under)
+abbrev pub inPlace : (first over under row lever : ℕ) → Bool
+inPlace first over under row lever = cond (ltb row first) (ltb over (2 * lever)) (ltb (2 * lever) under)
 
 unfoldable pub rowsInPlace : Face → Bool
 rowsInPlace face =
     let beam = face .beam in
-    every (between (face .extended) (2 * beam .depth - beam .flange) (2 * beam .depth - 3 * beam .flange)) 0 (take (face .rows) (face .levers))
+    every (inPlace (face .extended) (2 * beam .depth - beam .flange) (2 * beam .depth - 3 * beam .flange)) 0 (take (face .rows) (face .levers))
 
 -- 13 'column m, plate m or (if extended) mx under 500, or either e under 1000'
 unfoldable pub tooTight : (extended : ℕ) → Spacing → Bool
@@ -35,10 +33,3 @@ tooTight extended spacing =
     || (ltb (spacing .plate) 500
     || ((eqb extended 1 && ltb (spacing .extension) 500)
     || (ltb (spacing .«column_edge») 1000 || ltb (spacing .«plate_edge») 1000)))
-
--- What finding the rows in place relies on: each of it from fields in range.
-pub record PlacesInRange (face : Face) : Type 0 where
-  pub rows : face .rows ≤ 8
-  pub depth : Within depths (face .beam .depth)
-  pub flange : Within flanges (face .beam .flange)
-  pub lever : (row : ℕ) → getD (face .levers) row 0 ≤ 20000

@@ -1,10 +1,11 @@
-// Work's refusals after 10, asked one at a time: levers that fall, rows in place, room about the bolts, and the cap. Rows count from 0.
-// Work calls these for joints whose fields are in range.
+// Work's refusals 11, 12 and 13, asked one at a time: levers that fall, rows in place, and bolts far enough from web, weld and edge.
+// Rows count from 0. Work calls these for faces whose fields are in range.
 ghost use mathlib.Core.Path.{_≡_};
 ghost use Prim.Native.Nat.{ℕ, _≤_};
 ghost use lib.ListN.{length, getD, take};
 ghost use Rattle.arithmetic.specs.Table.{every};
-ghost use Rattle.refusals.specs.Refusals.{belowAbove, between, rowsInPlace, tooTight, PlacesInRange};
+ghost use Rattle.refusals.specs.Refusals.{belowAbove, inPlace, rowsInPlace, tooTight};
+ghost use Rattle.refusals.specs.Steps.{PlacesInRange};
 use joint::Face;
 use spacing::Spacing;
 
@@ -31,7 +32,7 @@ pub fn rows_in_place(face: Face) -> bool
     let levers = face.levers;
     let depth = face.beam.depth;
     let flange = face.beam.flange;
-    all_between(
+    all_in_place(
         face.rows as usize,
         levers,
         face.extended as usize,
@@ -41,13 +42,13 @@ pub fn rows_in_place(face: Face) -> bool
 }
 
 // Twice each lever: over the one bound above the first row under the flange, under the other from there on.
-fn all_between(rows: usize, levers: [u32; 8], first: usize, over: u32, under: u32) -> bool
+fn all_in_place(rows: usize, levers: [u32; 8], first: usize, over: u32, under: u32) -> bool
     requires { ⌜ (rows ≤ 8) × ((k : ℕ) → getD levers k 0 ≤ 20000) ⌝ }
-    ensures { λ r. ⌜ r ≡ every (between first over under) 0 (take rows levers) ⌝ }
+    ensures { λ r. ⌜ r ≡ every (inPlace first over under) 0 (take rows levers) ⌝ }
 {
     let mut row = 0;
     while row < rows {
-        if !is_between(row, first, over, under, levers[row]) {
+        if !is_in_place(row, first, over, under, levers[row]) {
             return false;
         }
         row += 1;
@@ -55,9 +56,9 @@ fn all_between(rows: usize, levers: [u32; 8], first: usize, over: u32, under: u3
     true
 }
 
-fn is_between(row: usize, first: usize, over: u32, under: u32, lever: u32) -> bool
+fn is_in_place(row: usize, first: usize, over: u32, under: u32, lever: u32) -> bool
     requires { ⌜ lever ≤ 20000 ⌝ }
-    ensures { λ r. ⌜ r ≡ between first over under row lever ⌝ }
+    ensures { λ r. ⌜ r ≡ inPlace first over under row lever ⌝ }
 {
     if row < first {
         over < 2 * lever

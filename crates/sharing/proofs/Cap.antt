@@ -21,6 +21,10 @@ unfolding groupSum
 whole xs k e = ap total (take-all (suc k - 0) xs (omega (arith, e)))
 
 module _ (limit : Table) (n cap : ℕ) where
+  withCap-whole : (k : ℕ) → n ≡ suc k → withCap limit n cap 0 k ≤ cap
+  unfolding withCap
+  withCap-whole k e = rw (eq-eqb (suc k) n (sym e)) (min-le-right _ _)
+
   withCap-le : (i j : ℕ) → withCap limit n cap i j ≤ limit i j
   unfolding withCap
   withCap-le i j = go (eqb i 0 && eqb (suc j) n)
@@ -28,10 +32,6 @@ module _ (limit : Table) (n cap : ℕ) where
       go : (t : Bool) → cond t (min (limit i j) cap) (limit i j) ≤ limit i j
       go true = min-le-left _ _
       go false = le-refl _
-
-  withCap-whole : (k : ℕ) → n ≡ suc k → withCap limit n cap 0 k ≤ cap
-  unfolding withCap
-  withCap-whole k e = rw (eq-eqb (suc k) n (sym e)) (min-le-right _ _)
 
   le-withCap : (i j x : ℕ) → x ≤ limit i j → (i ≡ 0 → suc j ≡ n → x ≤ cap) → x ≤ withCap limit n cap i j
   unfolding withCap

@@ -3,7 +3,7 @@ pub mod Lowering
 pub mod Places
 pub mod Totals
 pub mod Sums
-pub mod Agreement
 pub mod Moments
 pub mod Theorems
+pub mod Agreement
 pub mod Cap

@@ -10,10 +10,6 @@ use Rattle.sharing.specs.Sharing.{leastUpTo, lowered}
 use Rattle.sharing.proofs.Least.{least-le, le-least}
 
 module _ (limit : Table) (n : ℕ) where
-  pub lowered-le : (i j : ℕ) → lowered limit n i j ≤ limit i j
-  unfolding lowered
-  lowered-le i j = let own = least-le (λ d. limit i (j + d)) (n - suc j) 0 (omega arith) in rw add-zero at own
-
   pub lowered-grows : (i j : ℕ) → suc j < n → lowered limit n i j ≤ lowered limit n i (suc j)
   unfolding lowered
   lowered-grows i j h =
@@ -21,6 +17,10 @@ module _ (limit : Table) (n : ℕ) where
       (λ d hd.
       let further : suc d ≤ n - suc j = omega arith in
       le-trans (least-le (λ e. limit i (j + e)) (n - suc j) (suc d) further) (le-of-eq (ap (limit i) (add-suc j d ∙ sym (suc-add j d)))))
+
+  pub lowered-le : (i j : ℕ) → lowered limit n i j ≤ limit i j
+  unfolding lowered
+  lowered-le i j = let own = least-le (λ d. limit i (j + d)) (n - suc j) 0 (omega arith) in rw add-zero at own
 
   -- the longest group keeps its limit
   pub lowered-last : (i j : ℕ) → suc j ≡ n → lowered limit n i j ≡ limit i j

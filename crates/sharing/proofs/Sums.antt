@@ -5,13 +5,14 @@
 use mathlib.Core.Path.{_≡_, refl, sym, ap, _∙_}
 use mathlib.Core.Logic.{⊎-elim}
 use Prim.Native.Nat.{ℕ, zero, suc, _+_, _-_, _≤_, _<_}
-use native.Mathlib.Nat.{le-of-eq, le-suc-iff}
+use native.Mathlib.Nat.{le-trans, le-of-eq, le-suc-iff}
+use mathlib.Core.List.{List}
 use native.Mathlib.Omega.{arith}
 use native.Mathlib.Numerals.{add-one}
 use lib.ListN.{length, take, drop, length-append}
 use lib.Seq.{take-append-le, take-all}
 use Rattle.sharing.specs.Groups.{Table, total}
-use Rattle.sharing.specs.Sharing.{leastUpTo, lowered, nextForce, forcesDownTo}
+use Rattle.sharing.specs.Sharing.{lowered, allowance, nextForce, forcesDownTo}
 use Rattle.sharing.proofs.Least.{least-le, le-least}
 use Rattle.sharing.proofs.Lowering.{lowered-grows}
 use Rattle.sharing.proofs.Totals.{total-snoc, total-cut}
@@ -43,11 +44,15 @@ module _ (limit : Table) (n : ℕ) where
   unfolding sumDownTo
   got k i h = ap (λ xs. total xs + total (drop i (forcesDownTo limit n k))) (sym (take-forces k i h)) ∙ total-cut i _
 
-  -- the force of row k, with the count of the rows above in the place of their list's length
-  next : (k : ℕ) → nextForce limit n (forcesDownTo limit n k)
-      ≡ leastUpTo (λ i. lowered limit n i k - total (drop i (forcesDownTo limit n k))) k
-  unfolding nextForce
-  next k = ap (λ m. leastUpTo (λ i. lowered limit n i m - total (drop i (forcesDownTo limit n k))) m) (length-forces k)
+  -- the force of the next row is at most what each group ending there allows, and nothing larger is
+  next-le : (above : List ℕ) (i : ℕ) → i ≤ length above → nextForce limit n above ≤ lowered limit n i (length above) - total (drop i above)
+  unfolding nextForce allowance
+  next-le above i h = le-trans (least-le (allowance limit n above) (length above) i h) (omega arith)
+
+  le-next : (above : List ℕ) (x : ℕ) → ((i : ℕ) → i ≤ length above → x ≤ lowered limit n i (length above) - total (drop i above))
+      → x ≤ nextForce limit n above
+  unfolding nextForce allowance
+  le-next above x below = le-least (allowance limit n above) (length above) x (λ i h. let b = below i h in omega arith)
 
   pub sum-step : (k : ℕ) → sumDownTo limit n (suc k) ≡ sumDownTo limit n k + nextForce limit n (forcesDownTo limit n k)
   unfolding sumDownTo forcesDownTo
@@ -56,8 +61,8 @@ module _ (limit : Table) (n : ℕ) where
   sum-le-from : (k i : ℕ) → k < n → i ≤ k → sumDownTo limit n k ≤ sumDownTo limit n i + lowered limit n i k
       → sumDownTo limit n (suc k) ≤ sumDownTo limit n i + lowered limit n i k
   sum-le-from k i inside h fits =
-      let force = least-le (λ e. lowered limit n e k - total (drop e (forcesDownTo limit n k))) k i h in
-      let force-le : nextForce limit n (forcesDownTo limit n k) ≤ lowered limit n i k - total (drop i (forcesDownTo limit n k)) = rw (next k) force in
+      let above = forcesDownTo limit n k in
+      let force = rw (length-forces k) at (next-le above i (rw (length-forces k) h)) in
       omega (arith, sum-step k, got k i h)
 
   pub sum-le : (k i : ℕ) → k < n → i ≤ k → sumDownTo limit n (suc k) ≤ sumDownTo limit n i + lowered limit n i k
@@ -71,7 +76,8 @@ module _ (limit : Table) (n : ℕ) where
 
   pub le-sum : (k x : ℕ) → ((i : ℕ) → i ≤ k → x ≤ sumDownTo limit n i + lowered limit n i k) → x ≤ sumDownTo limit n (suc k)
   le-sum k x below =
-      let rest = le-least (λ i. lowered limit n i k - total (drop i (forcesDownTo limit n k))) k (x - sumDownTo limit n k)
-      (λ i h. let b = below i h in omega (arith, got k i h)) in
-      let force : x - sumDownTo limit n k ≤ nextForce limit n (forcesDownTo limit n k) = rw (next k) rest in
+      let above = forcesDownTo limit n k in
+      let allowed : (i : ℕ) → i ≤ length above → x - sumDownTo limit n k ≤ lowered limit n i (length above) - total (drop i above)
+      = rw (length-forces k) (λ i h. let b = below i h in omega (arith, got k i h)) in
+      let force = le-next above (x - sumDownTo limit n k) allowed in
       omega (arith, sum-step k)

@@ -1,11 +1,11 @@
--- The theorems of demand 3 for any count of rows and any table of limits: the shared forces compete, and they are the best.
+-- The theorems of demand 3 for any count of rows and any table of limits: the shared forces compete, they are the best, and no other list is.
 -- A list that competes keeps the lowered limits too, since no force is below zero; so each of its sums from the top is one
 -- that no group forbids, and the shared sums are the greatest of those. Assumes nothing.
 use mathlib.Core.Path.{_≡_, refl, sym, ap, _∙_}
 use mathlib.Core.Logic.{⊎-elim, _↔_}
 use mathlib.Core.Bool.{Bool, true, false}
 use Prim.Native.Nat.{ℕ, zero, suc, _+_, _-_, _≤_, _<_}
-use native.Mathlib.Nat.{le-refl, le-suc-iff, zero-mul, zero-add}
+use native.Mathlib.Nat.{le-refl, le-antisymm, le-suc-iff, zero-mul, zero-add}
 use native.Mathlib.Decide.{decLe}
 use native.Mathlib.Omega.{arith}
 use mathlib.Core.List.{List}
@@ -15,7 +15,7 @@ use Rattle.sharing.specs.Groups.{Table, total, groupSum}
 use Rattle.sharing.specs.Sharing.{lowered, shared, Competes, moment, Falling}
 use Rattle.sharing.specs.Best.{Best}
 use Rattle.sharing.proofs.Least.{le-least}
-use Rattle.sharing.proofs.Totals.{total-take-le, above-and-group}
+use Rattle.sharing.proofs.Totals.{total-take-le, sums-determine, above-and-group}
 use Rattle.sharing.proofs.Lowering.{lowered-le}
 use Rattle.sharing.proofs.Sums.{sumDownTo, length-forces, take-forces, sum-le, le-sum}
 use Rattle.sharing.proofs.Moments.{FallsFrom, moment-le, moment-eq}
@@ -102,6 +102,12 @@ module _ (limit : Table) (n : ℕ) where
         (λ e. moment-eq levers (shared limit n) other 0 _ from-above (shared-competes .rows ∙ sym (f .rows)) (c .rows ∙ sym (f .rows)) ahead
             (omega (arith, e, zero-mul (suc (getD levers 0 0)))) .1),
       )
+
+  -- no list but the shared one is the best: demand 3 alone determines the forces
+  pub best-is-shared : (forces : List ℕ) → Best limit n forces → forces ≡ shared limit n
+  best-is-shared forces b =
+      sums-determine forces (shared limit n) (b .competes .rows ∙ sym (shared-competes .rows))
+      (λ k. le-antisymm (sum-le-shared forces (b .competes) k) (b .sums (shared limit n) shared-competes k))
 
   not-passed : (smaller larger : Bool) → (smaller ≡ true → larger ≡ true) → larger ≡ false → smaller ≡ false
   not-passed true larger up fail = sym (up refl) ∙ fail

@@ -1,12 +1,12 @@
 -- Sums of lists: of two lists joined, of a list cut in two, of its rows i to j.
 -- The last puts the sum of a group as the difference of two sums from the top, by which every later argument goes.
 -- Assumes nothing.
-use mathlib.Core.Path.{_≡_, sym, ap, _∙_}
+use mathlib.Core.Path.{_≡_, refl, sym, ap, ap₂, _∙_}
 use Prim.Native.Nat.{ℕ, suc, _+_, _-_, _≤_}
 use native.Mathlib.Nat.{add-assoc, zero-add, add-zero, le-add-right}
 use native.Mathlib.Omega.{arith}
 use mathlib.Core.List.{List, [], _∷_, _++_}
-use lib.ListN.{take, drop, take-append-drop}
+use lib.ListN.{length, take, drop, take-append-drop}
 use lib.Seq.{take-add}
 use Rattle.sharing.specs.Groups.{total, groupSum}
 
@@ -23,6 +23,15 @@ total-cut i xs = sym (total-append (take i xs) (drop i xs)) ∙ ap total (take-a
 -- a sum from the top grows with the rows
 pub total-take-le : (xs : List ℕ) (k m : ℕ) → total (take k xs) ≤ total (take (k + m) xs)
 total-take-le xs k m = rw (take-add k m xs, total-append) (le-add-right _ _)
+
+-- lists of one length whose sums from the top are the same are the same
+pub sums-determine : (xs ys : List ℕ) → length xs ≡ length ys → ((k : ℕ) → total (take k xs) ≡ total (take k ys)) → xs ≡ ys
+sums-determine [] [] rows same = refl
+sums-determine [] (y ∷ ys) rows same = absurd (omega arith)
+sums-determine (x ∷ xs) [] rows same = absurd (omega arith)
+sums-determine (x ∷ xs) (y ∷ ys) rows same =
+    let first : x ≡ y = omega (arith, same 1) in
+    ap₂ _∷_ first (sums-determine xs ys (omega arith) (λ k. omega (arith, same (suc k), first)))
 
 pub above-and-group : (xs : List ℕ) (i j : ℕ) → i ≤ j → total (take i xs) + groupSum xs i j ≡ total (take (suc j) xs)
 unfolding groupSum

@@ -36,3 +36,7 @@ groupCount n = n * (n + 1) / 2
 unfoldable pub listed : ℕ → List ℕ → Table
 unfolding groupsAbove
 listed n limits i j = getD limits (groupsAbove n i + (j - i)) 0
+
+-- No limit above this is taken: Allocate's refusal 8.
+abbrev pub mostLimit : ℕ
+mostLimit = 4000000000

@@ -18,12 +18,17 @@ unfoldable pub lowered : Table → ℕ → Table
 unfolding leastUpTo
 lowered limit n i j = leastUpTo (λ further. limit i (j + further)) (n - suc j)
 
--- 'Each row gets the least, over groups ending at it, of the lowered limit less what the group's rows above have got.'
--- `above` is what the rows above have got; the groups i to `length above` end at the next row. No group's rows above have got more
--- than its lowered limit, so the difference is never cut at 0 (`sum-le` in proofs/Sums.antt).
+-- 'The lowered limit less what the group's rows above have got', of the group that begins at row i and ends at the next row: `above` is
+-- what the rows above have got. No group's rows above have got more than its lowered limit, so the difference is never cut at 0
+-- (`sum-le` in proofs/Sums.antt).
+unfoldable pub allowance : Table → ℕ → List ℕ → ℕ → ℕ
+unfolding lowered
+allowance limit n above i = lowered limit n i (length above) - total (drop i above)
+
+-- 'Each row gets the least, over groups ending at it', of those.
 unfoldable pub nextForce : Table → ℕ → List ℕ → ℕ
-unfolding leastUpTo lowered
-nextForce limit n above = leastUpTo (λ i. lowered limit n i (length above) - total (drop i above)) (length above)
+unfolding allowance
+nextForce limit n above = leastUpTo (allowance limit n above) (length above)
 
 -- 'From the top': the forces of the first k of n rows.
 unfoldable pub forcesDownTo : Table → ℕ → ℕ → List ℕ

@@ -17,8 +17,17 @@ use Rattle.joint.specs.declared.Bolts.{Bolts}
 use Rattle.joint.specs.declared.Beam.{Beam}
 use Rattle.joint.specs.declared.Plate.{Plate}
 use Rattle.strength.specs.Steel.{bands, steelStrength, steelStrengths, steelBearing, weldStrength}
-use Rattle.strength.specs.Bolt.{boltArea, boltTension, boltShear, boltBearing, boltUltimate, pairTension, boltStrengths}
-use Rattle.strength.specs.InRange.{SteelInRange, BoltInRange}
+use Rattle.strength.specs.Bolt.{boltArea, boltTension, boltShear, boltBearing, boltUltimate, pairTension, pairShear, boltStrengths}
+use Rattle.strength.specs.InRange.{
+  yieldStrengths,
+  boltDiameters,
+  boltBearings,
+  ultimateStrengths,
+  steelBearings,
+  weldStrengths,
+  SteelInRange,
+  BoltInRange,
+}
 
 -- a table's range holds at each of its keys
 module _ (range : Range) (keys values : List ℕ) (t : T (each (within range) keys values)) (key : ℕ) where
@@ -38,27 +47,19 @@ pub tension-most : (class : ℕ) → Within (0 to 700) (boltTension class)
 unfolding boltTension
 tension-most class = by-any (0 to 700) classes (240 ∷ 560 ∷ 700 ∷ []) tt class tt
 
-module _ (bolts : Bolts) (r : BoltsInRange bolts) where
-  pub diameter-range : Within (12 to 30) (bolts .diameter)
-  diameter-range = within-yes (12 to 30) (bolts .diameter) (of-one (within (12 to 30)) diameters tt (bolts .diameter) (r .diameter))
+pub shear-most : (class : ℕ) → Within (0 to 400) (boltShear class)
+unfolding boltShear
+shear-most class = by-any (0 to 400) classes (160 ∷ 375 ∷ 400 ∷ []) tt class tt
 
-  area-range : Within (843 to 5610) (boltArea (bolts .diameter))
-  unfolding boltArea
-  area-range = by-key (843 to 5610) diameters (843 ∷ 1570 ∷ 2450 ∷ 3530 ∷ 5610 ∷ []) tt (bolts .diameter) (r .diameter)
-
-  tension-range : Within (240 to 700) (boltTension (bolts .class))
-  unfolding boltTension
-  tension-range = by-key (240 to 700) classes (240 ∷ 560 ∷ 700 ∷ []) tt (bolts .class) (r .class)
-
-  pub bolt-in-range : BoltInRange (boltStrengths bolts)
-  unfolding pairTension boltShear boltBearing boltUltimate
-  bolt-in-range = record {
-    area = area-range;
-    pair = exactly 2 ⊗ area-range ⊗ tension-range ⊘ 10;
-    shear = by-key (160 to 400) classes (160 ∷ 375 ∷ 400 ∷ []) tt (bolts .class) (r .class);
-    bearing = by-key (460 to 1300) classes (460 ∷ 1000 ∷ 1300 ∷ []) tt (bolts .class) (r .class);
-    ultimate = by-key (400 to 1000) classes (400 ∷ 800 ∷ 1000 ∷ []) tt (bolts .class) (r .class);
-  }
+pub bolt-in-range : (bolts : Bolts) → BoltsInRange bolts → BoltInRange (boltStrengths bolts)
+unfolding pairTension pairShear boltBearing boltUltimate
+bolt-in-range bolts r = record {
+  diameter = within-yes boltDiameters (bolts .diameter) (of-one (within boltDiameters) diameters tt (bolts .diameter) (r .diameter));
+  pair-tension = exactly 2 ⊗ area-most (bolts .diameter) ⊗ tension-most (bolts .class) ⊘ 10;
+  pair-shear = exactly 2 ⊗ area-most (bolts .diameter) ⊗ shear-most (bolts .class) ⊘ 10;
+  bearing = by-key boltBearings classes (460 ∷ 1000 ∷ 1300 ∷ []) tt (bolts .class) (r .class);
+  ultimate = by-key ultimateStrengths classes (400 ∷ 800 ∷ 1000 ∷ []) tt (bolts .class) (r .class);
+}
 
 -- a thickness of at most 63 mm is in some band
 in-a-band : (thickness : ℕ) → thickness ≤ 630 → T (any (leb thickness) bands)
@@ -70,18 +71,19 @@ in-a-band thickness h = last (leb thickness 160) (leb thickness 400) (leb thickn
     last false false true t = tt
     last false false false t = t
 
-pub steel-range : (grade thickness : ℕ) → T (oneOf grades grade) → thickness ≤ 630 → Within (255 to 355) (steelStrength grade thickness)
+pub steel-range : (grade thickness : ℕ) → T (oneOf grades grade) → thickness ≤ 630 → Within yieldStrengths (steelStrength grade thickness)
 unfolding steelStrength
 steel-range grade thickness g h =
-    let test = within (255 to 355) in
+    let test = within yieldStrengths in
     let low : List ℕ = 275 ∷ 265 ∷ 255 ∷ [] in
     let high : List ℕ = 355 ∷ 345 ∷ 335 ∷ [] in
-    by-key (255 to 355) grades (upTo bands low thickness ∷ upTo bands high thickness ∷ [])
-    (yes-and (test (upTo bands low thickness)) (test (upTo bands high thickness) && true) (banded low tt) (yes-and (test (upTo bands high thickness)) true (banded high tt) tt))
+    by-key yieldStrengths grades (upTo bands low thickness ∷ upTo bands high thickness ∷ [])
+    (yes-and (test (upTo bands low thickness)) (test (upTo bands high thickness) && true) (banded low tt)
+    (yes-and (test (upTo bands high thickness)) true (banded high tt) tt))
     grade g
   where
-    banded : (values : List ℕ) → T (each (within (255 to 355)) bands values) → T (within (255 to 355) (upTo bands values thickness))
-    banded values t = of-found (within (255 to 355)) (leb thickness) bands values t (in-a-band thickness h)
+    banded : (values : List ℕ) → T (each (within yieldStrengths) bands values) → T (within yieldStrengths (upTo bands values thickness))
+    banded values t = of-found (within yieldStrengths) (leb thickness) bands values t (in-a-band thickness h)
 
 pub steel-in-range : (column : Column) (beam : Beam) (plate : Plate) → ColumnInRange column → BeamInRange beam → PlateInRange plate →
     SteelInRange (steelStrengths column beam plate)
@@ -91,15 +93,15 @@ steel-in-range column beam plate rc rb rp = record {
   plate = steel-range (plate .grade) (plate .thickness) (rp .grade) (omega (arith, rp .thickness .high));
 }
 
-pub steel-bearing-range : (grade : ℕ) → T (oneOf grades grade) → Within (460 to 550) (steelBearing grade)
+pub steel-bearing-range : (grade : ℕ) → T (oneOf grades grade) → Within steelBearings (steelBearing grade)
 unfolding steelBearing
-steel-bearing-range grade g = by-key (460 to 550) grades (460 ∷ 550 ∷ []) tt grade g
+steel-bearing-range grade g = by-key steelBearings grades (460 ∷ 550 ∷ []) tt grade g
 
 -- whatever the grades
-pub weld-range : (beam plate : ℕ) → Within (220 to 250) (weldStrength beam plate)
+pub weld-range : (beam plate : ℕ) → Within weldStrengths (weldStrength beam plate)
 unfolding weldStrength
 weld-range beam plate = either (eqb beam 275 || eqb plate 275)
   where
-    either : (low : Bool) → Within (220 to 250) (cond low 220 250)
-    either true = within-yes (220 to 250) 220 tt
-    either false = within-yes (220 to 250) 250 tt
+    either : (low : Bool) → Within weldStrengths (cond low 220 250)
+    either true = within-yes weldStrengths 220 tt
+    either false = within-yes weldStrengths 250 tt

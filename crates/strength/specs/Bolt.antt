@@ -1,5 +1,5 @@
--- Document 01, 'Strengths': bolt area by diameter, a bolt's strengths by class, and pair tension. What a table doesn't have is 0.
--- Assumes nothing.
+-- Document 01, 'Strengths': bolt area by diameter, a bolt's strengths by class, and what a pair of bolts takes. What a table doesn't
+-- have is 0. Assumes nothing.
 use Prim.Native.Nat.{ℕ, _*_, _/_}
 use mathlib.Core.List.{[], _∷_}
 use Rattle.arithmetic.specs.Table.{lookup}
@@ -27,18 +27,29 @@ boltBearing = lookup classes (460 ∷ 1000 ∷ 1300 ∷ [])
 unfoldable pub boltUltimate : (class : ℕ) → ℕ
 boltUltimate = lookup classes (400 ∷ 800 ∷ 1000 ∷ [])
 
--- W
+-- 'Pair tension W = 2×A×pt÷10.'
 unfoldable pub pairTension : Bolts → ℕ
 pairTension bolts = 2 * boltArea (bolts .diameter) * boltTension (bolts .class) / 10
 
-abbrev pub classStrengths : (class : ℕ) → ClassStrengths
-classStrengths class = record { tension = boltTension class; shear = boltShear class; bearing = boltBearing class; ultimate = boltUltimate class }
+-- 'For a pair, bolt shear S = 2×A×ps÷10' (document 01, 'Verdicts').
+unfoldable pub pairShear : Bolts → ℕ
+pairShear bolts = 2 * boltArea (bolts .diameter) * boltShear (bolts .class) / 10
 
+-- the four tables by class, side by side
+abbrev pub classStrengths : (class : ℕ) → ClassStrengths
+classStrengths class = record {
+  tension = boltTension class;
+  shear = boltShear class;
+  bearing = boltBearing class;
+  ultimate = boltUltimate class;
+}
+
+-- what limits and verdicts need of the bolts
 abbrev pub boltStrengths : Bolts → BoltStrengths
 boltStrengths bolts = record {
-  area = boltArea (bolts .diameter);
-  pair = pairTension bolts;
-  shear = boltShear (bolts .class);
+  diameter = bolts .diameter;
+  «pair_tension» = pairTension bolts;
+  «pair_shear» = pairShear bolts;
   bearing = boltBearing (bolts .class);
   ultimate = boltUltimate (bolts .class);
 }

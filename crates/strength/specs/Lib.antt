@@ -1,4 +1,5 @@
--- Document 01's tables: steel, bolts and welds, refusal 14's thickness, and how large the strengths are.
+-- Document 01's strengths: steel and welds (`Steel`), bolts (`Bolt`), and refusal 14's thickness (`Thickness`). What serves the code and
+-- the crates above is how large the strengths are (`InRange`).
 pub mod Steel
 pub mod Bolt
 pub mod Thickness

@@ -5,7 +5,6 @@ use mathlib.Core.Bool.{Bool, _&&_}
 use lib.Dec.{ltb}
 use Rattle.joint.specs.declared.Column.{Column}
 use Rattle.joint.specs.declared.Plate.{Plate}
-use Rattle.joint.specs.declared.Bolts.{Bolts}
 use Rattle.strength.specs.declared.SteelStrengths.{SteelStrengths}
 use Rattle.strength.specs.declared.BoltStrengths.{BoltStrengths}
 
@@ -15,7 +14,7 @@ thicknessLimit diameter ultimate = 10000 * diameter * diameter * ultimate
 unfoldable pub tooThick : (thickness strength limit : ℕ) → Bool
 tooThick thickness strength limit = ltb limit (361 * thickness * thickness * strength)
 
-unfoldable pub bothTooThick : Column → Plate → Bolts → SteelStrengths → BoltStrengths → Bool
-bothTooThick column plate bolts steel bolt =
-    let limit = thicknessLimit (bolts .diameter) (bolt .ultimate) in
+unfoldable pub bothTooThick : Column → Plate → SteelStrengths → BoltStrengths → Bool
+bothTooThick column plate steel bolt =
+    let limit = thicknessLimit (bolt .diameter) (bolt .ultimate) in
     tooThick (column .flange) (steel .column) limit && tooThick (plate .thickness) (steel .plate) limit

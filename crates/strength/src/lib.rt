@@ -3,12 +3,12 @@
 ghost use mathlib.Core.Path.{_≡_};
 ghost use mathlib.Core.List.{[], _∷_};
 ghost use Prim.Native.Nat.{_≤_};
+ghost use Rattle.arithmetic.specs.Range.{Within};
 ghost use Rattle.arithmetic.specs.Table.{upTo};
 ghost use Rattle.strength.specs.Steel.{steelStrength, steelStrengths, steelBearing, weldStrength, bands};
 ghost use Rattle.strength.specs.Bolt.{boltArea, classStrengths, boltStrengths};
 ghost use Rattle.strength.specs.Thickness.{thicknessLimit, tooThick, bothTooThick};
-ghost use Rattle.strength.specs.InRange.{SteelInRange, BoltInRange};
-ghost use Rattle.joint.specs.InRange.{ColumnInRange, PlateInRange, BoltsInRange};
+ghost use Rattle.strength.specs.InRange.{yieldStrengths, boltDiameters, ultimateStrengths, mostThickness, ThicknessInRange};
 use joint::Beam;
 use joint::Bolts;
 use joint::Column;
@@ -29,12 +29,16 @@ pub struct ClassStrengths {
     pub ultimate: u64,
 }
 
-// What a joint's bolts give: area A in tenths of mm², pair tension W in newtons, ps, bearing and U.
+// All that limits and verdicts need of a joint's bolts.
 pub struct BoltStrengths {
-    pub area: u64,
-    pub pair: u64,
-    pub shear: u64,
+    // δ, in millimetres
+    pub diameter: u64,
+    // W, in newtons
+    pub pair_tension: u64,
+    // S, in newtons
+    pub pair_shear: u64,
     pub bearing: u64,
+    // U
     pub ultimate: u64,
 }
 
@@ -96,12 +100,12 @@ pub fn weld_strength(beam_grade: u32, plate_grade: u32) -> u64
 pub fn bolt_strengths(bolts: Bolts) -> BoltStrengths
     ensures { λ r. ⌜ r ≡ boltStrengths bolts ⌝ }
 {
-    let area = bolt_area(bolts.diameter);
+    let pair = 2 * bolt_area(bolts.diameter);
     let class = class_strengths(bolts.class);
     BoltStrengths {
-        area,
-        pair: 2 * area * class.tension / 10,
-        shear: class.shear,
+        diameter: bolts.diameter as u64,
+        pair_tension: pair * class.tension / 10,
+        pair_shear: pair * class.shear / 10,
         bearing: class.bearing,
         ultimate: class.ultimate,
     }
@@ -146,27 +150,25 @@ fn class_of(tension: u64, shear: u64, bearing: u64, ultimate: u64) -> ClassStren
 pub fn both_too_thick(
     column: Column,
     plate: Plate,
-    bolts: Bolts,
     steel: SteelStrengths,
     bolt: BoltStrengths,
 ) -> bool
-    requires { ⌜ ColumnInRange column × PlateInRange plate × BoltsInRange bolts × SteelInRange steel × BoltInRange bolt ⌝ }
-    ensures { λ r. ⌜ r ≡ bothTooThick column plate bolts steel bolt ⌝ }
+    requires { ⌜ ThicknessInRange column plate steel bolt ⌝ }
+    ensures { λ r. ⌜ r ≡ bothTooThick column plate steel bolt ⌝ }
 {
-    let limit = thickness_limit(bolts.diameter, bolt.ultimate);
+    let limit = thickness_limit(bolt.diameter, bolt.ultimate);
     too_thick(column.flange, steel.column, limit) & too_thick(plate.thickness, steel.plate, limit)
 }
 
-fn thickness_limit(diameter: u32, ultimate: u64) -> u64
-    requires { ⌜ (diameter ≤ 30) × (ultimate ≤ 1000) ⌝ }
+fn thickness_limit(diameter: u64, ultimate: u64) -> u64
+    requires { ⌜ Within boltDiameters diameter × Within ultimateStrengths ultimate ⌝ }
     ensures { λ r. ⌜ r ≡ thicknessLimit diameter ultimate ⌝ }
 {
-    let d = diameter as u64;
-    10000 * d * d * ultimate
+    10000 * diameter * diameter * ultimate
 }
 
 fn too_thick(thickness: u32, strength: u64, limit: u64) -> bool
-    requires { ⌜ (thickness ≤ 500) × (strength ≤ 355) ⌝ }
+    requires { ⌜ (thickness ≤ mostThickness) × Within yieldStrengths strength ⌝ }
     ensures { λ r. ⌜ r ≡ tooThick thickness strength limit ⌝ }
 {
     let t = thickness as u64;

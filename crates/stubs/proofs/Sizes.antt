@@ -1,14 +1,15 @@
 -- How large a T-stub's figures and lengths are, from those of its parts. Assumes nothing.
-use Prim.Native.Nat.{ℕ, _*_, _/_, _≤_, min, zero-le}
+use Prim.Native.Nat.{ℕ, _*_, _/_, _≤_, min}
 use native.Mathlib.Nat.{le-trans, min-le-left, min-le-right}
 use Rattle.arithmetic.specs.Range.{Within, _to_}
-use Rattle.arithmetic.proofs.Bounds.{exactly, _⊗_, _⊕_, _⊘_, loosen}
+use Rattle.arithmetic.proofs.Bounds.{exactly, atMost, _⊗_, _⊕_, _⊘_, loosen}
 use Rattle.stubs.specs.Bending.{extensionLength}
-use Rattle.stubs.specs.Worked.{stubOf, lengthsOf, StubParts, StubWithin, LengthsWithin}
+use Rattle.stubs.specs.Worked.{stubOf, lengthsOf}
+use Rattle.stubs.specs.InRange.{boltDistances, edgeDistances, mostPattern, StubParts, StubWithin, LengthsWithin}
 
 pub stub-within : (m edge t y W : ℕ) → StubParts m edge t y W → StubWithin (stubOf m (min edge (5 * m / 4)) t y W)
 stub-within m edge t y W p =
-    let n : Within (0 to 30000) (min edge (5 * m / 4)) = record { low = zero-le; high = le-trans (min-le-left _ _) (p .edge-most .high) } in
+    let n : Within (0 to edgeDistances .high) (min edge (5 * m / 4)) = atMost (le-trans (min-le-left _ _) (p .edge-most)) in
     record {
       flexure = p .thickness ⊗ p .thickness ⊗ p .strength;
       yielding = exactly 100 ⊗ p .distance;
@@ -16,11 +17,11 @@ stub-within m edge t y W p =
       breaking = exactly 200 ⊗ (p .distance ⊕ n);
     }
 
-pub lengths-within : (m e : ℕ) → Within (500 to 15000) m → Within (1000 to 30000) e → LengthsWithin (lengthsOf m e)
+pub lengths-within : (m e : ℕ) → Within boltDistances m → Within edgeDistances e → LengthsWithin (lengthsOf m e)
 lengths-within m e wm we =
     record {
-      circular = loosen (0 to 94245) (exactly 6283 ⊗ wm ⊘ 1000) tt;
-      side = loosen (0 to 97500) (exactly 4 ⊗ wm ⊕ exactly 5 ⊗ we ⊘ 4) tt;
+      circular = loosen (0 to mostPattern) (exactly 6283 ⊗ wm ⊘ 1000) tt;
+      side = loosen (0 to mostPattern) (exactly 4 ⊗ wm ⊕ exactly 5 ⊗ we ⊘ 4) tt;
     }
 
 -- the plate's width ends the extension row's length

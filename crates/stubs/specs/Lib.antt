@@ -1,4 +1,6 @@
--- Document 01's rules for a T-stub and a web (`Bending`, `Web`), and the same worked from figures that hang on no group (`Worked`).
+-- Document 01's rules for a T-stub and a web (`Bending`, `Web`). What serves the code: the same worked from figures that are the same for
+-- every group (`Worked`), and how large the figures are (`InRange`).
 pub mod Bending
 pub mod Web
 pub mod Worked
+pub mod InRange

@@ -1,13 +1,14 @@
-// Bending of T-stubs and tension in webs (document 01, 'Group limits'), from figures that hang on no group. Lengths are in hundredths
-// of a millimetre. The crate of group limits calls these for figures that it shows to be small enough.
+// Bending of T-stubs and tension in webs (document 01, 'Group limits'), from figures that are the same for every group. Lengths are in
+// hundredths of a millimetre. The crate `tension` calls these for figures that it shows to be small enough.
 ghost use mathlib.Core.Path.{_≡_};
-ghost use Prim.Native.Nat.{_+_, _*_, _/_, _≤_, min};
-ghost use Rattle.arithmetic.specs.Range.{Within, _to_};
+ghost use Prim.Native.Nat.{_*_, _/_, min};
+ghost use Rattle.arithmetic.specs.Range.{Within};
 ghost use Rattle.stubs.specs.Bending.{extensionLength};
-ghost use Rattle.stubs.specs.Worked.{stubOf, lengthsOf, lengthBy, bendingBy, webBy, StubParts, StubWithin};
+ghost use Rattle.stubs.specs.Worked.{stubOf, lengthsOf, lengthBy, bendingBy, webBy};
+ghost use Rattle.stubs.specs.InRange.{boltDistances, edgeDistances, StubParts, PatternParts, BendingParts, ExtensionParts, WebParts};
 use arithmetic::least;
 
-// The column flange or the end plate as a T-stub: what of its bending hangs on no group.
+// The column flange or the end plate as a T-stub: what of its bending is the same for every group.
 pub struct Stub {
     // t²y
     pub flexure: u64,
@@ -43,7 +44,7 @@ pub fn stub_of(m: u64, edge: u64, thickness: u32, strength: u64, pair: u64) -> S
 }
 
 pub fn lengths_of(m: u64, edge: u64) -> Lengths
-    requires { ⌜ Within (500 to 15000) m × Within (1000 to 30000) edge ⌝ }
+    requires { ⌜ Within boltDistances m × Within edgeDistances edge ⌝ }
     ensures { λ r. ⌜ r ≡ lengthsOf m edge ⌝ }
 {
     Lengths {
@@ -54,7 +55,7 @@ pub fn lengths_of(m: u64, edge: u64) -> Lengths
 
 // The smaller of two patterns for a group, with its rise.
 pub fn effective_length(circular: u64, side: u64, rise: u64) -> u64
-    requires { ⌜ (circular ≤ 120000) × (side ≤ 120000) × (rise ≤ 20000) ⌝ }
+    requires { ⌜ PatternParts circular side rise ⌝ }
     ensures { λ r. ⌜ r ≡ lengthBy circular side rise ⌝ }
 {
     least(circular + 20 * rise, side + 10 * rise)
@@ -62,8 +63,7 @@ pub fn effective_length(circular: u64, side: u64, rise: u64) -> u64
 
 // The least of the three modes of a T-stub, for some rows and an effective length.
 pub fn bending(stub: Stub, pair: u64, rows: u64, length: u64) -> u64
-    requires { ⌜ StubWithin stub ⌝ }
-    requires { ⌜ Within (0 to 785400) pair × Within (0 to 8) rows × Within (0 to 520000) length ⌝ }
+    requires { ⌜ BendingParts stub pair rows length ⌝ }
     ensures { λ r. ⌜ r ≡ bendingBy stub pair rows length ⌝ }
 {
     let flexure = length * stub.flexure;
@@ -74,7 +74,7 @@ pub fn bending(stub: Stub, pair: u64, rows: u64, length: u64) -> u64
 
 // The least of seven patterns about the extension row.
 pub fn extension_length(m: u64, edge: u32, plate_edge: u64, gauge: u32, width: u32) -> u64
-    requires { ⌜ (m ≤ 202500) × (edge ≤ 2000) × («plate_edge» ≤ 30000) × (gauge ≤ 3000) × (width ≤ 6000) ⌝ }
+    requires { ⌜ ExtensionParts m edge «plate_edge» gauge width ⌝ }
     ensures { λ r. ⌜ r ≡ extensionLength m edge «plate_edge» gauge width ⌝ }
 {
     let half_circle = 6283 * m / 2000;
@@ -94,7 +94,7 @@ pub fn extension_length(m: u64, edge: u32, plate_edge: u64, gauge: u32, width: u
 
 // A web's tension: 173g, the rise, and the web's thickness times its strength.
 pub fn web_tension(gauge: u64, rise: u64, web: u64) -> u64
-    requires { ⌜ Within (0 to 519000) gauge × Within (0 to 20000) rise × Within (0 to 142000) web ⌝ }
+    requires { ⌜ WebParts gauge rise web ⌝ }
     ensures { λ r. ⌜ r ≡ webBy gauge rise web ⌝ }
 {
     (gauge + 100 * rise) * web / 10000

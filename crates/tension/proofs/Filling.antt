@@ -1,69 +1,80 @@
--- A table filled group by group in Allocate's order: the places before the next one agree with the limits.
--- No two groups have one place, so a store spoils none. Assumes nothing.
+-- A table filled group by group in Allocate's order: the places before the next one agree with the limits, and the others are as they
+-- were. No two groups have one place, so a store spoils none. Assumes nothing.
 use mathlib.Core.Path.{_≡_, refl, sym, ap, _∙_}
 use mathlib.Core.Logic.{⊎-elim}
-use Prim.Native.Nat.{ℕ, zero, suc, _+_, _-_, _≤_, _<_, zero-le}
-use native.Mathlib.Nat.{le-refl, le-trans, le-suc-iff, sub-self}
+use Prim.Native.Nat.{ℕ, suc, _+_, _-_, _≤_, _<_, zero-le}
+use native.Mathlib.Nat.{le-refl, le-suc-iff, sub-self}
 use native.Mathlib.Numerals.{add-one}
 use native.Mathlib.Omega.{arith}
 use mathlib.Core.List.{List}
-use lib.ListN.{length, getD, set, length-set, replicate}
+use lib.ListN.{length, getD, set, length-set}
 use lib.Seq.{getD-set-same, getD-set-other}
-use Rattle.arithmetic.proofs.Store.{store-keeps}
-use Rattle.sharing.specs.Groups.{Table, groupsAbove, listed}
+use Rattle.arithmetic.proofs.Tests.{split}
+use Rattle.joint.specs.Ranges.{rowCounts}
+use Rattle.sharing.specs.Groups.{Table, groupsAbove, groupCount, listed, mostLimit}
 use Rattle.sharing.proofs.Places.{groups-inside, all-groups, group-count-le, one-group-a-place}
 use Rattle.tension.specs.Admissible.{Filled}
 
 -- How things stand when the groups before the one of rows i to j have their limits.
-pub record FilledTo (n : ℕ) (limit : Table) (table : List ℕ) (next i j : ℕ) : Type 0 where
+pub record FilledTo (n : ℕ) (limit : Table) (entry table : List ℕ) (next i j : ℕ) : Type 0 where
   pub size : length table ≡ 36
   pub place : next ≡ groupsAbove n i + (j - i)
   pub rows : i ≤ n
   pub group : i ≤ j
   pub inside : i < n → j < n
-  pub agrees : (a b : ℕ) → a ≤ b → b < n → groupsAbove n a + (b - a) < next → getD table (groupsAbove n a + (b - a)) 0 ≡ limit a b
-  pub bounded : (k : ℕ) → getD table k 0 ≤ 4000000000
+  pub ended : n ≤ i → j ≡ i
+  pub agrees : (a b : ℕ) → a ≤ b → b < n → groupsAbove n a + (b - a) < next
+      → getD table (groupsAbove n a + (b - a)) 0 ≡ limit a b
+  pub bounded : (k : ℕ) → k < next → getD table k 0 ≤ mostLimit
+  pub untouched : (k : ℕ) → next ≤ k → getD table k 0 ≡ getD entry k 0
 
-module _ (n : ℕ) (limit : Table) (few : n ≤ 8) where
-  pub start : FilledTo n limit (replicate 36 0) 0 0 0
+module _ (n : ℕ) (limit : Table) (few : n ≤ rowCounts .high) (entry : List ℕ) where
+  pub start : length entry ≡ 36 → FilledTo n limit entry entry 0 0 0
   unfolding groupsAbove
-  start =
+  start whole =
       record {
-        size = refl;
+        size = whole;
         place = refl;
         rows = zero-le;
         group = zero-le;
         inside = λ h. h;
-        agrees = λ a b h inside before. absurd (omega arith);
-        bounded = λ k. le-trans (zeros 36 k) zero-le;
+        ended = λ h. refl;
+        agrees = λ a b h inside earlier. absurd (omega arith);
+        bounded = λ k earlier. absurd (omega arith);
+        untouched = λ k later. refl;
       }
-    where
-      zeros : (m k : ℕ) → getD (replicate m 0) k 0 ≤ 0
-      zeros zero k = zero-le
-      zeros (suc m) zero = zero-le
-      zeros (suc m) (suc k) = zeros m k
 
-  module _ (table : List ℕ) (next i j : ℕ) (f : FilledTo n limit table next i j) (more : i < n) where
+  module _ (table : List ℕ) (next i j : ℕ) (f : FilledTo n limit entry table next i j) (more : i < n) where
     pub next-inside : next < 36
     next-inside = omega (arith, f .place, f .group, f .inside more, groups-inside n i more, group-count-le n few)
 
-    module _ (stored : ℕ) (e : stored ≡ limit i j) (small : stored ≤ 4000000000) where
+    module _ (stored : ℕ) (e : stored ≡ limit i j) (small : stored ≤ mostLimit) where
+      here : getD (set table next stored) next 0 ≡ stored
+      here = getD-set-same table next stored 0 (omega (arith, f .size, next-inside))
+
       agrees-after : (a b : ℕ) → a ≤ b → b < n → groupsAbove n a + (b - a) < suc next
           → getD (set table next stored) (groupsAbove n a + (b - a)) 0 ≡ limit a b
       agrees-after a b h inside before =
           ⊎-elim
           (λ earlier. getD-set-other table next _ stored 0 (omega arith) ∙ f .agrees a b h inside earlier)
-          (λ here.
+          (λ same-place.
           let at : groupsAbove n a + (b - a) ≡ next = omega arith in
           let same = one-group-a-place n a b i j h inside (f .group) (f .inside more) (at ∙ f .place) in
-          ap (λ k. getD (set table next stored) k 0) at
-          ∙ getD-set-same table next stored 0 (omega (arith, f .size, next-inside))
-          ∙ e
-          ∙ λ t. limit (sym (same .0) t) (sym (same .1) t))
+          ap (λ k. getD (set table next stored) k 0) at ∙ here ∙ e ∙ λ t. limit (sym (same .0) t) (sym (same .1) t))
           (le-suc-iff .0 before)
 
+      bounded-after : (k : ℕ) → k < suc next → getD (set table next stored) k 0 ≤ mostLimit
+      bounded-after k before =
+          ⊎-elim
+          (λ earlier. omega (arith, getD-set-other table next k stored 0 (omega arith), f .bounded k earlier))
+          (λ same-place. let at : k ≡ next = omega arith in rw at (omega (arith, here)))
+          (split k next)
+
+      untouched-after : (k : ℕ) → suc next ≤ k → getD (set table next stored) k 0 ≡ getD entry k 0
+      untouched-after k later = getD-set-other table next k stored 0 (omega arith) ∙ f .untouched k (omega arith)
+
       -- the group of one row more
-      pub along : j + 1 < n → FilledTo n limit (set table next stored) (next + 1) i (j + 1)
+      pub along : j + 1 < n → FilledTo n limit entry (set table next stored) (next + 1) i (j + 1)
       along inside =
           rw (add-one next)
           (record {
@@ -72,12 +83,14 @@ module _ (n : ℕ) (limit : Table) (few : n ≤ 8) where
             rows = f .rows;
             group = omega (arith, f .group);
             inside = λ h. inside;
+            ended = λ h. absurd (omega arith);
             agrees = agrees-after;
-            bounded = store-keeps 4000000000 table next stored (f .bounded) small;
+            bounded = bounded-after;
+            untouched = untouched-after;
           })
 
       -- the first group of the next row
-      pub down : j + 1 ≡ n → FilledTo n limit (set table next stored) (next + 1) (i + 1) (i + 1)
+      pub down : j + 1 ≡ n → FilledTo n limit entry (set table next stored) (next + 1) (i + 1) (i + 1)
       unfolding groupsAbove
       down last =
           rw (add-one next, add-one i)
@@ -87,17 +100,27 @@ module _ (n : ℕ) (limit : Table) (few : n ≤ 8) where
             rows = more;
             group = le-refl (suc i);
             inside = λ h. h;
+            ended = λ h. refl;
             agrees = agrees-after;
-            bounded = store-keeps 4000000000 table next stored (f .bounded) small;
+            bounded = bounded-after;
+            untouched = untouched-after;
           })
 
-  pub finish : (table : List ℕ) (next i j : ℕ) → FilledTo n limit table next i j → n ≤ i → Filled n limit table
+  pub finish : (table : List ℕ) (next i j : ℕ) → FilledTo n limit entry table next i j → n ≤ i → Filled n limit entry table
   unfolding listed
   finish table next i j f past =
       let all : i ≡ n = omega (arith, f .rows) in
+      let whole : next ≡ groupCount n = omega (arith, f .place, f .ended past, ap (groupsAbove n) all, all-groups n) in
       record {
         size = f .size;
         agrees = λ a b h inside.
-            f .agrees a b h inside (omega (arith, f .place, ap (groupsAbove n) all, all-groups n, groups-inside n a (omega arith)));
-        bounded = f .bounded;
+            f .agrees a b h inside (omega (arith, groups-inside n a (omega arith)));
+        bounded = λ k earlier. f .bounded k (omega arith);
+        untouched = λ k later. f .untouched k (omega arith);
       }
+
+-- where no place was above the greatest limit, none is
+pub none-above : {n : ℕ} {limit : Table} {entry exit : List ℕ} → Filled n limit entry exit
+    → ((k : ℕ) → getD entry k 0 ≤ mostLimit) → (k : ℕ) → getD exit k 0 ≤ mostLimit
+none-above {n} f small k =
+    ⊎-elim (λ of-a-group. f .bounded k of-a-group) (λ past. omega (arith, f .untouched k past, small k)) (split k (groupCount n))

@@ -9,11 +9,11 @@ use mathlib.Core.List.{[], _∷_, _++_}
 use lib.Dec.{ltb, eqb}
 use borrow.Author.Tests.{ltb-true, ne-eqb}
 use Rattle.arithmetic.proofs.Bounds.{cond-le}
+use Rattle.joint.specs.Ranges.{rowCounts}
 use Rattle.joint.specs.declared.Column.{Column}
-use Rattle.joint.specs.declared.Bolts.{Bolts}
 use Rattle.joint.specs.declared.Face.{Face}
-use Rattle.joint.specs.declared.Joint.{Joint}
 use Rattle.strength.specs.Steel.{steelStrength}
+use Rattle.strength.specs.InRange.{mostPairTension}
 use Rattle.strength.specs.declared.SteelStrengths.{SteelStrengths}
 use Rattle.spacing.specs.Spacing.{rise}
 use Rattle.spacing.specs.declared.Spacing.{Spacing}
@@ -21,9 +21,20 @@ use Rattle.stubs.specs.Bending.{leastOf, extensionLength, bending}
 use Rattle.stubs.specs.Worked.{stubOf, lengthBy, bendingBy}
 use Rattle.stubs.specs.declared.Stub.{Stub}
 use Rattle.stubs.proofs.Same.{bending-worked, web-worked, length-worked}
-use Rattle.tension.specs.Limits.{rowsIn, columnFlangeBending, extensionBending, endPlateBending, endPlateLimits, columnWebTension, beamWebLimits, groupLimit}
-use Rattle.tension.specs.Dimensions.{dimensionsOf, columnBy, plateSideBy, plateBy, websBy, limitBy, DimensionsWithin}
-use Rattle.tension.specs.Admissible.{Measured}
+use Rattle.sharing.specs.Groups.{mostLimit}
+use Rattle.tension.specs.Limits.{
+  rowsIn,
+  columnFlangeBending,
+  extensionBending,
+  endPlateBending,
+  endPlateLimits,
+  columnWebTension,
+  beamWebLimits,
+  groupLimit,
+}
+use Rattle.tension.specs.Dimensions.{dimensionsOf, columnBy, plateSideBy, plateBy, websBy, limitBy, limitsBy}
+use Rattle.tension.specs.InRange.{DimensionsWithin}
+use Rattle.tension.specs.Admissible.{Measured, ExtensionMeasured}
 use Rattle.tension.specs.declared.Dimensions.{Dimensions}
 
 -- the limits that apply, counted one after the other
@@ -52,24 +63,24 @@ length-either : (near : Bool) (c a b s : ℕ) → lengthBy c (cond near a b) s �
 length-either true c a b s = refl
 length-either false c a b s = refl
 
-module _ (column : Column) (bolts : Bolts) (face : Face) (i j : ℕ) where
-  column-worked : columnBy (dimensionsOf column bolts face) (rowsIn i j) (rise face i j) ≡ columnFlangeBending column bolts face i j
+module _ (column : Column) (face : Face) (W i j : ℕ) where
+  column-worked : columnBy (dimensionsOf column face W) (rowsIn i j) (rise face i j) ≡ columnFlangeBending column face W i j
   unfolding columnBy dimensionsOf columnFlangeBending
   column-worked = bending-worked _ _ _ _ _ _ _ ∙ ap (bending _ _ _ _ _ _) (length-worked _ _ _)
 
   plate-worked :
-      (let d = dimensionsOf column bolts face in
+      (let d = dimensionsOf column face W in
       bendingBy (d .plate) (d .pair) (rowsIn i j) (lengthBy (d .«plate_lengths» .circular) (plateSideBy d i) (rise face i j)))
-      ≡ endPlateBending column bolts face i j
+      ≡ endPlateBending column face W i j
   unfolding dimensionsOf endPlateBending
   plate-worked =
       bending-worked _ _ _ _ _ _ _
       ∙ ap (bending _ _ _ _ _ _) (length-either (eqb i (face .extended)) _ _ _ _)
 
-  pub limit-worked : limitBy (dimensionsOf column bolts face) i (rowsIn i j) (rise face i j) ≡ groupLimit column bolts face i j
+  pub limit-worked : limitsBy (dimensionsOf column face W) (face .levers) i j ≡ groupLimit column face W i j
   unfolding limitBy plateBy websBy dimensionsOf groupLimit endPlateLimits beamWebLimits columnWebTension
   limit-worked =
-      let d = dimensionsOf column bolts face in
+      let d = dimensionsOf column face W in
       let above = ltb i (face .extended) in
       let alone = eqb (rowsIn i j) 1 in
       let below = ltb (face .extended) i in
@@ -77,31 +88,31 @@ module _ (column : Column) (bolts : Bolts) (face : Face) (i j : ℕ) where
       (λ t. counted above alone below (column-worked t) (d .extension) (plate-worked t)
       (web (column .web) (steelStrength (column .grade) (column .flange)) t)
       (web (face .beam .web) (steelStrength (face .beam .grade) (face .beam .flange)) t))
-      ∙ extension-counts (face .extended) i (extensionBending bolts face) above refl alone below _ _ _ _
+      ∙ extension-counts (face .extended) i (extensionBending face W) above refl alone below _ _ _ _
       ∙ in-order above alone below _ _ _ _ _
 
--- The figures of a joint as measured are the definitions'.
-module _ (joint : Joint) (spacing : Spacing) (steel : SteelStrengths) (pair : ℕ) (measured : Measured joint spacing steel pair)
+-- The figures of a face as measured are the definitions'.
+module _ (column : Column) (face : Face) (spacing : Spacing) (steel : SteelStrengths) (W : ℕ) (m : Measured column face spacing steel W)
     (edge : ℕ) (both : edge ≡ min (spacing .«column_edge») (spacing .«plate_edge»)) where
-  pub column-stub : stubOf (spacing .column) (min edge (5 * spacing .column / 4)) (joint .column .flange) (steel .column) pair
-      ≡ dimensionsOf (joint .column) (joint .bolts) (joint .face) .column
+  pub column-stub : stubOf (spacing .column) (min edge (5 * spacing .column / 4)) (column .flange) (steel .column) W
+      ≡ dimensionsOf column face W .column
   unfolding dimensionsOf
-  column-stub = rw (both, measured .distances, measured .strengths, measured .bolts)
+  column-stub = rw (both, m .distances, m .strengths)
 
-  pub plate-stub : stubOf (spacing .plate) (min edge (5 * spacing .plate / 4)) (joint .face .plate .thickness) (steel .plate) pair
-      ≡ dimensionsOf (joint .column) (joint .bolts) (joint .face) .plate
+  pub plate-stub : stubOf (spacing .plate) (min edge (5 * spacing .plate / 4)) (face .plate .thickness) (steel .plate) W
+      ≡ dimensionsOf column face W .plate
   unfolding dimensionsOf
-  plate-stub = rw (both, measured .distances, measured .strengths, measured .bolts)
+  plate-stub = rw (both, m .distances, m .strengths)
 
-module _ (joint : Joint) (spacing : Spacing) (steel : SteelStrengths) (pair : ℕ) (measured : Measured joint spacing steel pair) where
-  -- the extension row's limit, from its stub and its length
-  pub extension-worked : (end length limit : ℕ) (stub : Stub) → end ≡ joint .face .layout .edge * 10
-      → stub ≡ stubOf (spacing .extension) (min end (5 * spacing .extension / 4)) (joint .face .plate .thickness) (steel .plate) pair
-      → length ≡ extensionLength (spacing .extension) (joint .face .layout .edge) (spacing .«plate_edge») (joint .face .layout .gauge) (joint .face .plate .width)
-      → limit ≡ bendingBy stub pair 1 length → limit ≡ extensionBending (joint .bolts) (joint .face)
+-- the extension row's limit, from its stub and its length
+module _ (face : Face) (mx e yp W : ℕ) (x : ExtensionMeasured face mx e yp W) where
+  pub extension-worked : (end length limit : ℕ) (stub : Stub) → end ≡ face .layout .edge * 10
+      → stub ≡ stubOf mx (min end (5 * mx / 4)) (face .plate .thickness) yp W
+      → length ≡ extensionLength mx (face .layout .edge) e (face .layout .gauge) (face .plate .width)
+      → limit ≡ bendingBy stub W 1 length → limit ≡ extensionBending face W
   unfolding extensionBending
-  extension-worked end length limit stub ee es el e =
-      rw (e, es, el, ee, mul-comm (joint .face .layout .edge) 10, measured .distances, measured .strengths, measured .bolts)
+  extension-worked end length limit stub ee es el limit-is =
+      rw (limit-is, es, el, ee, mul-comm (face .layout .edge) 10, x .distance, x .edge, x .strength)
       (bending-worked _ _ _ _ _ _ _)
 
 -- A limit is at most the bolts' own.
@@ -118,5 +129,6 @@ module _ (d : Dimensions) (i k s : ℕ) where
   unfolding limitBy columnBy bendingBy
   limit-le = le-trans (webs-le _) (le-trans (plate-le _) (min-le-right _ _))
 
-  pub limit-small : DimensionsWithin d → k ≤ 8 → limitBy d i k s ≤ 4000000000
-  limit-small w few = omega (arith, limit-le, mul-le-mul {n₁ = k} {m₁ = d .pair} {n₂ = 8} {m₂ = 785400} few (w .pair .high))
+  pub limit-small : DimensionsWithin d → k ≤ rowCounts .high → limitBy d i k s ≤ mostLimit
+  limit-small w few =
+      omega (arith, limit-le, mul-le-mul {n₁ = k} {m₁ = d .pair} {n₂ = rowCounts .high} {m₂ = mostPairTension} few (w .pair .high))

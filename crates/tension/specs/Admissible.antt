@@ -1,46 +1,77 @@
--- What a joint's limits rely on, which Work establishes, and what they come to: a table in Allocate's order.
+-- What the limits of one face rely on, which Work establishes, and what they come to: a table in Allocate's order.
 -- Assumes nothing.
 use mathlib.Core.Path.{_≡_}
 use Prim.Native.Nat.{ℕ, suc, _≤_, _<_}
 use mathlib.Core.List.{List}
 use lib.ListN.{length, getD}
-use Rattle.joint.specs.declared.Joint.{Joint}
-use Rattle.joint.specs.InRange.{InRange}
-use Rattle.strength.specs.Steel.{steelStrengths}
-use Rattle.strength.specs.Bolt.{pairTension}
+use Rattle.arithmetic.specs.Range.{Within, _to_}
+use Rattle.joint.specs.Ranges.{rowCounts}
+use Rattle.joint.specs.InRange.{ColumnInRange, FaceInRange}
+use Rattle.joint.specs.declared.Column.{Column}
+use Rattle.joint.specs.declared.Face.{Face}
+use Rattle.strength.specs.Steel.{steelStrength, steelStrengths}
+use Rattle.strength.specs.InRange.{mostPairTension}
 use Rattle.strength.specs.declared.SteelStrengths.{SteelStrengths}
-use Rattle.sharing.specs.Groups.{Table, listed}
+use Rattle.sharing.specs.Groups.{Table, groupCount, listed, mostLimit}
 use Rattle.spacing.specs.Spacing.{columnM, plateM, columnEdge, plateEdge, extensionM, spacingOf}
 use Rattle.spacing.specs.declared.Spacing.{Spacing}
+use Rattle.stubs.specs.InRange.{boltDistances, extensionDistances, edgeDistances, rises}
+use Rattle.tension.specs.InRange.{DimensionsWithin}
+use Rattle.tension.specs.declared.Dimensions.{Dimensions}
 
--- What refusals 10, 11 and 13 leave; the limits need nothing of 12.
-pub record Admissible (joint : Joint) : Type 0 where
+-- What refusals 10, 11 and 13 leave of a face on its column; the limits need nothing of 12.
+pub record Admissible (c : Column) (f : Face) : Type 0 where
   -- refusal 10
-  pub in-range : InRange joint
+  pub column : ColumnInRange c
+  pub face : FaceInRange f
   -- refusal 11: each lever is below the one above it
-  pub falls : (k : ℕ) → suc k < joint .face .rows → getD (joint .face .levers) (suc k) 0 < getD (joint .face .levers) k 0
+  pub falls : (k : ℕ) → suc k < f .rows → getD (f .levers) (suc k) 0 < getD (f .levers) k 0
   -- refusal 13
-  pub column-m : 500 ≤ columnM (joint .column) (joint .face .layout)
-  pub plate-m : 500 ≤ plateM (joint .face)
-  pub extension-m : joint .face .extended ≡ 1 → 500 ≤ extensionM (joint .face)
-  pub column-edge : 1000 ≤ columnEdge (joint .column) (joint .face .layout)
-  pub plate-edge : 1000 ≤ plateEdge (joint .face)
+  pub column-m : boltDistances .low ≤ columnM c (f .layout)
+  pub plate-m : boltDistances .low ≤ plateM f
+  pub extension-m : f .extended ≡ 1 → extensionDistances .low ≤ extensionM f
+  pub column-edge : edgeDistances .low ≤ columnEdge c (f .layout)
+  pub plate-edge : edgeDistances .low ≤ plateEdge f
 
--- The distances and strengths that go with a joint.
-pub record Measured (joint : Joint) (spacing : Spacing) (steel : SteelStrengths) (pair : ℕ) : Type 0 where
-  pub distances : spacing ≡ spacingOf (joint .column) (joint .face)
-  pub strengths : steel ≡ steelStrengths (joint .column) (joint .face .beam) (joint .face .plate)
-  pub bolts : pair ≡ pairTension (joint .bolts)
+-- The distances and strengths that go with the face, and a pair tension that bolts can have.
+pub record Measured (c : Column) (f : Face) (spacing : Spacing) (steel : SteelStrengths) (W : ℕ) : Type 0 where
+  pub distances : spacing ≡ spacingOf c f
+  pub strengths : steel ≡ steelStrengths c (f .beam) (f .plate)
+  pub pair : Within (0 to mostPairTension) W
+
+-- All that filling a lent table with the face's limits asks.
+pub record LimitsAsked (c : Column) (f : Face) (spacing : Spacing) (steel : SteelStrengths) (W : ℕ) (table : List ℕ) : Type 0 where
+  pub admissible : Admissible c f
+  pub measured : Measured c f spacing steel W
+  pub size : length table ≡ 36
+
+-- What the extension row's limit is worked from: mx, the plate's e, yp and W.
+pub record ExtensionMeasured (f : Face) (mx e yp W : ℕ) : Type 0 where
+  pub face : FaceInRange f
+  pub distance : mx ≡ extensionM f
+  pub distance-least : f .extended ≡ 1 → extensionDistances .low ≤ mx
+  pub edge : e ≡ plateEdge f
+  pub edge-least : edgeDistances .low ≤ e
+  pub strength : yp ≡ steelStrength (f .plate .grade) (f .plate .thickness)
+  pub pair : Within (0 to mostPairTension) W
 
 -- Levers of at most eight rows, none below one under it.
 pub record Levers (n : ℕ) (levers : List ℕ) : Type 0 where
-  pub rows : n ≤ 8
+  pub rows : n ≤ rowCounts .high
   pub fall : (i j : ℕ) → i ≤ j → j < n → getD levers j 0 ≤ getD levers i 0
-  pub high : (i : ℕ) → i < n → getD levers i 0 ≤ 20000
+  pub high : (i : ℕ) → i < n → getD levers i 0 ≤ rises .high
 
--- A list of limits in Allocate's order, with places for eight rows, that agrees with a table on every group of n rows and has no
--- limit that Allocate refuses.
-pub record Filled (n : ℕ) (limit : Table) (limits : List ℕ) : Type 0 where
-  pub size : length limits ≡ 36
-  pub agrees : (i j : ℕ) → i ≤ j → j < n → listed n limits i j ≡ limit i j
-  pub bounded : (k : ℕ) → getD limits k 0 ≤ 4000000000
+-- All that filling it asks once the dimensions are worked.
+pub record FillAsked (d : Dimensions) (n : ℕ) (h table : List ℕ) : Type 0 where
+  pub dimensions : DimensionsWithin d
+  pub levers : Levers n h
+  pub size : length table ≡ 36
+
+-- What stands in a lent table of 36 places once every group of n rows has its limit there, in Allocate's order.
+pub record Filled (n : ℕ) (limit : Table) (entry exit : List ℕ) : Type 0 where
+  pub size : length exit ≡ 36
+  pub agrees : (i j : ℕ) → i ≤ j → j < n → listed n exit i j ≡ limit i j
+  -- no limit that Allocate refuses
+  pub bounded : (k : ℕ) → k < groupCount n → getD exit k 0 ≤ mostLimit
+  -- places that no group has are as they were
+  pub untouched : (k : ℕ) → groupCount n ≤ k → getD exit k 0 ≡ getD entry k 0

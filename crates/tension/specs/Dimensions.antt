@@ -1,23 +1,23 @@
--- What of a joint's group limits is the same for every group, worked once, and a group's limit from it.
+-- What of a face's group limits is the same for every group, worked once, and a group's limit from it.
 -- Each figure is a factor of document 01's rules; proofs/Worked.antt has the law that the limit comes out as they say.
 -- Assumes nothing.
-use Prim.Native.Nat.{ℕ, _*_, _/_, min}
+use Prim.Native.Nat.{ℕ, _-_, _*_, _/_, min}
 use mathlib.Core.Bool.{cond}
+use mathlib.Core.List.{List}
 use lib.Dec.{ltb, eqb}
-use Rattle.arithmetic.specs.Range.{Within, _to_}
+use lib.ListN.{getD}
 use Rattle.joint.specs.declared.Column.{Column}
-use Rattle.joint.specs.declared.Bolts.{Bolts}
 use Rattle.joint.specs.declared.Face.{Face}
 use Rattle.strength.specs.Steel.{steelStrength}
-use Rattle.strength.specs.Bolt.{pairTension}
 use Rattle.spacing.specs.Spacing.{columnM, plateM, columnEdge, plateEdge}
 use Rattle.stubs.specs.Bending.{effectiveEdge}
-use Rattle.stubs.specs.Worked.{stubOf, lengthsOf, lengthBy, bendingBy, webBy, StubWithin, LengthsWithin}
-use Rattle.tension.specs.Limits.{extensionBending}
+use Rattle.stubs.specs.Worked.{stubOf, lengthsOf, lengthBy, bendingBy, webBy}
+use Rattle.sharing.specs.Groups.{Table}
+use Rattle.tension.specs.Limits.{rowsIn, extensionBending}
 use Rattle.tension.specs.declared.Dimensions.{Dimensions}
 
-unfoldable pub dimensionsOf : Column → Bolts → Face → Dimensions
-dimensionsOf column bolts face =
+unfoldable pub dimensionsOf : Column → Face → (W : ℕ) → Dimensions
+dimensionsOf column face W =
     let g = face .layout .gauge in
     let mc = columnM column (face .layout) in
     let mp = plateM face in
@@ -26,14 +26,13 @@ dimensionsOf column bolts face =
     let yc = steelStrength (column .grade) (column .flange) in
     let yb = steelStrength (face .beam .grade) (face .beam .flange) in
     let yp = steelStrength (face .plate .grade) (face .plate .thickness) in
-    let W = pairTension bolts in
     record {
       column = stubOf mc (effectiveEdge ec ep mc) (column .flange) yc W;
       plate = stubOf mp (effectiveEdge ec ep mp) (face .plate .thickness) yp W;
       «column_lengths» = lengthsOf mc ec;
       «plate_lengths» = lengthsOf mp ep;
       «near_flange» = face .layout .alpha * mp / 100;
-      extension = cond (eqb (face .extended) 0) 0 (extensionBending bolts face);
+      extension = cond (eqb (face .extended) 0) 0 (extensionBending face W);
       gauge = 173 * g;
       «column_web» = column .web * yc;
       «beam_web» = face .beam .web * yb;
@@ -66,14 +65,6 @@ websBy d i s limit =
 unfoldable pub limitBy : Dimensions → (i k s : ℕ) → ℕ
 limitBy d i k s = websBy d i s (plateBy d i k s (columnBy d k s))
 
--- how large the figures are
-pub record DimensionsWithin (d : Dimensions) : Type 0 where
-  pub column : StubWithin (d .column)
-  pub plate : StubWithin (d .plate)
-  pub column-lengths : LengthsWithin (d .«column_lengths»)
-  pub plate-lengths : LengthsWithin (d .«plate_lengths»)
-  pub near-flange : Within (0 to 120000) (d .«near_flange»)
-  pub gauge : Within (0 to 519000) (d .gauge)
-  pub column-web : Within (0 to 142000) (d .«column_web»)
-  pub beam-web : Within (0 to 142000) (d .«beam_web»)
-  pub pair : Within (0 to 785400) (d .pair)
+-- the limit of every group, from the rows' levers
+abbrev pub limitsBy : Dimensions → (levers : List ℕ) → Table
+limitsBy d levers i j = limitBy d i (rowsIn i j) (getD levers i 0 - getD levers j 0)

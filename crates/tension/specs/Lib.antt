@@ -1,4 +1,6 @@
--- The limit of a row group (`Limits`), what it relies on, and the same from dimensions worked once for all groups.
+-- Document 01's limit of a row group (`Limits`). What serves the code: the same from dimensions worked once for all groups
+-- (`Dimensions`), how large those are (`InRange`), what the limits rely on and what they fill (`Admissible`).
 pub mod Limits
-pub mod Admissible
 pub mod Dimensions
+pub mod InRange
+pub mod Admissible

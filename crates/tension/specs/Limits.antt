@@ -1,69 +1,68 @@
 -- The limit of a row group (document 01, 'Group limits'): of each check that applies, and the least of those.
 -- Rows count from 0. The first row below the beam flange is row 1 if flush, row 2 if extended: here 0 or 1, as field 2 is; a group
--- that begins above it begins at the extension row. Assumes nothing.
+-- that begins above it begins at the extension row. W is the pair tension of the bolts. Assumes nothing.
 use Prim.Native.Nat.{ℕ, suc, _-_, _*_, _/_, min}
 use mathlib.Core.Bool.{cond}
 use mathlib.Core.List.{List, [], _∷_, _++_}
 use lib.Dec.{ltb, eqb}
 use Rattle.joint.specs.declared.Column.{Column}
-use Rattle.joint.specs.declared.Bolts.{Bolts}
 use Rattle.joint.specs.declared.Face.{Face}
 use Rattle.strength.specs.Steel.{steelStrength}
-use Rattle.strength.specs.Bolt.{pairTension}
 use Rattle.spacing.specs.Spacing.{columnM, plateM, columnEdge, plateEdge, extensionM, rise}
 use Rattle.stubs.specs.Bending.{leastOf, effectiveEdge, effectiveLength, effectiveLengthNearFlange, extensionLength, bending}
 use Rattle.stubs.specs.Web.{webTension}
+use Rattle.sharing.specs.Groups.{Table}
 
 -- 'k is its number of rows'
 abbrev pub rowsIn : ℕ → ℕ → ℕ
 rowsIn i j = suc j - i
 
 -- bending of the column flange
-unfoldable pub columnFlangeBending : Column → Bolts → Face → ℕ → ℕ → ℕ
-columnFlangeBending column bolts face i j =
+unfoldable pub columnFlangeBending : Column → Face → (W i j : ℕ) → ℕ
+columnFlangeBending column face W i j =
     let m = columnM column (face .layout) in
     let e = columnEdge column (face .layout) in
     bending m (effectiveEdge e (plateEdge face) m) (column .flange) (steelStrength (column .grade) (column .flange))
-    (pairTension bolts) (rowsIn i j) (effectiveLength m e (rise face i j))
+    W (rowsIn i j) (effectiveLength m e (rise face i j))
 
 -- 'Extension row alone, plate': 'n' is the smaller of E and 5mx÷4; mx stands for m.'
-unfoldable pub extensionBending : Bolts → Face → ℕ
-extensionBending bolts face =
+unfoldable pub extensionBending : Face → (W : ℕ) → ℕ
+extensionBending face W =
     let m = extensionM face in
     bending m (min (10 * face .layout .edge) (5 * m / 4)) (face .plate .thickness)
-    (steelStrength (face .plate .grade) (face .plate .thickness)) (pairTension bolts) 1
+    (steelStrength (face .plate .grade) (face .plate .thickness)) W 1
     (extensionLength m (face .layout .edge) (plateEdge face) (face .layout .gauge) (face .plate .width))
 
 -- plate bending of a group that begins below the beam flange
-unfoldable pub endPlateBending : Column → Bolts → Face → ℕ → ℕ → ℕ
-endPlateBending column bolts face i j =
+unfoldable pub endPlateBending : Column → Face → (W i j : ℕ) → ℕ
+endPlateBending column face W i j =
     let m = plateM face in
     let e = plateEdge face in
     let s = rise face i j in
     bending m (effectiveEdge (columnEdge column (face .layout)) e m) (face .plate .thickness)
-    (steelStrength (face .plate .grade) (face .plate .thickness)) (pairTension bolts) (rowsIn i j)
+    (steelStrength (face .plate .grade) (face .plate .thickness)) W (rowsIn i j)
     (cond (eqb i (face .extended)) (effectiveLengthNearFlange (face .layout .alpha) m s) (effectiveLength m e s))
 
 -- 'Longer groups that begin at the extension row have no plate limit.'
-unfoldable pub endPlateLimits : Column → Bolts → Face → ℕ → ℕ → List ℕ
-endPlateLimits column bolts face i j =
+unfoldable pub endPlateLimits : Column → Face → (W i j : ℕ) → List ℕ
+endPlateLimits column face W i j =
     cond (ltb i (face .extended))
-    (cond (eqb (rowsIn i j) 1) (extensionBending bolts face ∷ []) [])
-    (endPlateBending column bolts face i j ∷ [])
+    (cond (eqb (rowsIn i j) 1) (extensionBending face W ∷ []) [])
+    (endPlateBending column face W i j ∷ [])
 
-unfoldable pub columnWebTension : Column → Face → ℕ → ℕ → ℕ
+unfoldable pub columnWebTension : Column → Face → (i j : ℕ) → ℕ
 columnWebTension column face i j =
     webTension (face .layout .gauge) (rise face i j) (column .web) (steelStrength (column .grade) (column .flange))
 
 -- 'Beam web: the same with tb, yb, only for groups that begin below the first row under the flange.'
-unfoldable pub beamWebLimits : Face → ℕ → ℕ → List ℕ
+unfoldable pub beamWebLimits : Face → (i j : ℕ) → List ℕ
 beamWebLimits face i j =
     cond (ltb (face .extended) i)
     (webTension (face .layout .gauge) (rise face i j) (face .beam .web) (steelStrength (face .beam .grade) (face .beam .flange)) ∷ [])
     []
 
 -- 'A group's limit is the least of those that apply.'
-unfoldable pub groupLimit : Column → Bolts → Face → ℕ → ℕ → ℕ
-groupLimit column bolts face i j =
-    leastOf (columnFlangeBending column bolts face i j)
-    (endPlateLimits column bolts face i j ++ (columnWebTension column face i j ∷ beamWebLimits face i j))
+unfoldable pub groupLimit : Column → Face → (W : ℕ) → Table
+groupLimit column face W i j =
+    leastOf (columnFlangeBending column face W i j)
+    (endPlateLimits column face W i j ++ (columnWebTension column face i j ∷ beamWebLimits face i j))

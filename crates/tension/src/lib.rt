@@ -1,16 +1,19 @@
 // The tension side: the limit of every group of bolt rows (document 01, 'Group limits'). Rows count from 0.
 // Lengths are in hundredths of a millimetre. Work calls these for joints that refusals 10 to 13 let pass.
 ghost use mathlib.Core.Path.{_≡_};
-ghost use Prim.Native.Nat.{_+_, _-_, _*_, _/_, _<_};
+ghost use Prim.Native.Nat.{_*_, _≤_};
 ghost use mathlib.Core.Bool.{cond};
 ghost use lib.Dec.{eqb};
-ghost use lib.ListN.{getD, replicate};
-ghost use Rattle.arithmetic.specs.Range.{Within, _to_};
-ghost use Rattle.tension.specs.Limits.{extensionBending, rowsIn, groupLimit};
-ghost use Rattle.tension.specs.Admissible.{Admissible, Measured, Levers, Filled};
-ghost use Rattle.tension.specs.Dimensions.{columnBy, plateSideBy, plateBy, websBy, limitBy, dimensionsOf, DimensionsWithin};
+ghost use Rattle.arithmetic.specs.Range.{Within};
+ghost use Rattle.joint.specs.Ranges.{gauges};
+ghost use Rattle.stubs.specs.InRange.{boltDistances, rises};
+ghost use Rattle.tension.specs.Limits.{extensionBending, groupLimit};
+ghost use Rattle.tension.specs.Admissible.{Admissible, Measured, LimitsAsked, ExtensionMeasured, FillAsked, Filled};
+ghost use Rattle.tension.specs.Dimensions.{columnBy, plateSideBy, plateBy, websBy, limitBy, limitsBy, dimensionsOf};
+ghost use Rattle.tension.specs.InRange.{DimensionsWithin, GroupInRange};
 use arithmetic::least;
-use joint::Joint;
+use joint::Column;
+use joint::Face;
 use spacing::Spacing;
 use strength::SteelStrengths;
 use stubs::Lengths;
@@ -22,7 +25,7 @@ use stubs::lengths_of;
 use stubs::stub_of;
 use stubs::web_tension;
 
-// What is the same for all of a joint's groups.
+// What is the same for all groups of a face.
 pub struct Dimensions {
     pub column: Stub,
     pub plate: Stub,
@@ -45,7 +48,7 @@ pub struct Dimensions {
 
 // A field times a figure.
 fn times(a: u32, b: u64) -> u64
-    requires { ⌜ Within (0 to 3000) a × Within (0 to 15000) b ⌝ }
+    requires { ⌜ (a ≤ gauges .high) × (b ≤ boltDistances .high) ⌝ }
     ensures { λ r. ⌜ r ≡ a * b ⌝ }
 {
     (a as u64) * b
@@ -53,8 +56,7 @@ fn times(a: u32, b: u64) -> u64
 
 // The bending limit of a group's column flange.
 fn column_limit(d: Dimensions, rows: u64, rise: u64) -> u64
-    requires { ⌜ DimensionsWithin d ⌝ }
-    requires { ⌜ Within (0 to 8) rows × Within (0 to 20000) rise ⌝ }
+    requires { ⌜ GroupInRange d rows rise ⌝ }
     ensures { λ r. ⌜ r ≡ columnBy d rows rise ⌝ }
 {
     let lengths = d.column_lengths;
@@ -75,8 +77,7 @@ fn plate_side(d: Dimensions, row: usize) -> u64
 
 // A limit with the end plate's, where there is one.
 fn with_plate(d: Dimensions, row: usize, rows: u64, rise: u64, limit: u64) -> u64
-    requires { ⌜ DimensionsWithin d ⌝ }
-    requires { ⌜ Within (0 to 8) rows × Within (0 to 20000) rise ⌝ }
+    requires { ⌜ GroupInRange d rows rise ⌝ }
     ensures { λ r. ⌜ r ≡ plateBy d row rows rise limit ⌝ }
 {
     if row < d.first {
@@ -92,8 +93,7 @@ fn with_plate(d: Dimensions, row: usize, rows: u64, rise: u64, limit: u64) -> u6
 
 // A limit with the webs'.
 fn with_webs(d: Dimensions, row: usize, rise: u64, limit: u64) -> u64
-    requires { ⌜ DimensionsWithin d ⌝ }
-    requires { ⌜ Within (0 to 20000) rise ⌝ }
+    requires { ⌜ DimensionsWithin d × Within rises rise ⌝ }
     ensures { λ r. ⌜ r ≡ websBy d row rise limit ⌝ }
 {
     let web = least(limit, web_tension(d.gauge, rise, d.column_web));
@@ -106,8 +106,7 @@ fn with_webs(d: Dimensions, row: usize, rise: u64, limit: u64) -> u64
 
 // The limit of the group of so many rows from a row on.
 fn group_limit(d: Dimensions, row: usize, rows: u64, rise: u64) -> u64
-    requires { ⌜ DimensionsWithin d ⌝ }
-    requires { ⌜ Within (0 to 8) rows × Within (0 to 20000) rise ⌝ }
+    requires { ⌜ GroupInRange d rows rise ⌝ }
     ensures { λ r. ⌜ r ≡ limitBy d row rows rise ⌝ }
 {
     let flange = column_limit(d, rows, rise);
@@ -115,33 +114,35 @@ fn group_limit(d: Dimensions, row: usize, rows: u64, rise: u64) -> u64
     with_webs(d, row, rise, plate)
 }
 
-// The limit of every group of a joint's rows, put over the zeros of a lent table: groups 1–1, 1–2, .. 1–n, 2–2 and so on.
+// The limit of every group of a face's rows, put at the front of a lent table: groups 1–1, 1–2, .. 1–n, 2–2 and so on. Places past the
+// last group stay as they are.
 pub fn group_limits(
-    joint: Joint,
+    column: Column,
+    face: Face,
     spacing: Spacing,
     steel: SteelStrengths,
     pair: u64,
     table: &mut [u64; 36],
 )
-    requires { ⌜ Admissible joint ⌝ }
-    requires { ⌜ Measured joint spacing steel pair ⌝ }
-    requires { ⌜ now table ≡ replicate 36 0 ⌝ }
-    ensures { λ _. ⌜ Filled (joint .face .rows) (groupLimit (joint .column) (joint .bolts) (joint .face)) (now (table .exit)) ⌝ }
+    requires { ⌜ LimitsAsked column face spacing steel pair (now table) ⌝ }
+    ensures { λ _. ⌜ Filled (face .rows) (groupLimit column face pair) (now (table .entry)) (now (table .exit)) ⌝ }
 {
-    let d = dimensions_of(joint, spacing, steel, pair);
-    let face = joint.face;
+    let d = dimensions_of(column, face, spacing, steel, pair);
     let levers = face.levers;
     fill_limits(d, face.rows as usize, levers, table);
 }
 
-// What of the limits hangs on no group.
-fn dimensions_of(joint: Joint, spacing: Spacing, steel: SteelStrengths, pair: u64) -> Dimensions
-    requires { ⌜ Admissible joint ⌝ }
-    requires { ⌜ Measured joint spacing steel pair ⌝ }
-    ensures { λ r. ⌜ r ≡ dimensionsOf (joint .column) (joint .bolts) (joint .face) ⌝ }
+// What of the limits is the same for every group.
+fn dimensions_of(
+    column: Column,
+    face: Face,
+    spacing: Spacing,
+    steel: SteelStrengths,
+    pair: u64,
+) -> Dimensions
+    requires { ⌜ Admissible column face × Measured column face spacing steel pair ⌝ }
+    ensures { λ r. ⌜ r ≡ dimensionsOf column face pair ⌝ }
 {
-    let column = joint.column;
-    let face = joint.face;
     let edge = least(spacing.column_edge, spacing.plate_edge);
     Dimensions {
         column: stub_of(spacing.column, edge, column.flange, steel.column, pair),
@@ -149,7 +150,13 @@ fn dimensions_of(joint: Joint, spacing: Spacing, steel: SteelStrengths, pair: u6
         column_lengths: lengths_of(spacing.column, spacing.column_edge),
         plate_lengths: lengths_of(spacing.plate, spacing.plate_edge),
         near_flange: times(face.layout.alpha, spacing.plate) / 100,
-        extension: extension_limit(joint, spacing, steel, pair),
+        extension: extension_limit(
+            face,
+            spacing.extension,
+            spacing.plate_edge,
+            steel.plate,
+            pair,
+        ),
         gauge: times(face.layout.gauge, 173),
         column_web: times(column.web, steel.column),
         beam_web: times(face.beam.web, steel.beam),
@@ -158,41 +165,26 @@ fn dimensions_of(joint: Joint, spacing: Spacing, steel: SteelStrengths, pair: u6
     }
 }
 
-// The plate limit of the extension row alone, 0 if flush.
-fn extension_limit(joint: Joint, spacing: Spacing, steel: SteelStrengths, pair: u64) -> u64
-    requires { ⌜ Admissible joint ⌝ }
-    requires { ⌜ Measured joint spacing steel pair ⌝ }
-    ensures { λ r. ⌜ r ≡ cond (eqb (joint .face .extended) 0) 0 (extensionBending (joint .bolts) (joint .face)) ⌝ }
+// The plate limit of the extension row alone, 0 if flush: from mx, the plate's e and its strength.
+fn extension_limit(face: Face, m: u64, plate_edge: u64, strength: u64, pair: u64) -> u64
+    requires { ⌜ ExtensionMeasured face m «plate_edge» strength pair ⌝ }
+    ensures { λ r. ⌜ r ≡ cond (eqb (face .extended) 0) 0 (extensionBending face pair) ⌝ }
 {
-    let plate = joint.face.plate;
-    let layout = joint.face.layout;
-    if joint.face.extended == 0 {
+    let plate = face.plate;
+    let layout = face.layout;
+    if face.extended == 0 {
         return 0;
     }
-    let m = spacing.extension;
-    let stub = stub_of(
-        m,
-        times(layout.edge, 10),
-        plate.thickness,
-        steel.plate,
-        pair,
-    );
-    let length = extension_length(
-        m,
-        layout.edge,
-        spacing.plate_edge,
-        layout.gauge,
-        plate.width,
-    );
+    let end = times(layout.edge, 10);
+    let stub = stub_of(m, end, plate.thickness, strength, pair);
+    let length = extension_length(m, layout.edge, plate_edge, layout.gauge, plate.width);
     bending(stub, pair, 1, length)
 }
 
 // Every group's limit, row by row and from the shortest group to the longest.
 fn fill_limits(d: Dimensions, rows: usize, levers: [u32; 8], table: &mut [u64; 36])
-    requires { ⌜ DimensionsWithin d ⌝ }
-    requires { ⌜ Levers rows levers ⌝ }
-    requires { ⌜ now table ≡ replicate 36 0 ⌝ }
-    ensures { λ _. ⌜ Filled rows (λ i j. limitBy d i (rowsIn i j) (getD levers i 0 - getD levers j 0)) (now (table .exit)) ⌝ }
+    requires { ⌜ FillAsked d rows levers (now table) ⌝ }
+    ensures { λ _. ⌜ Filled rows (limitsBy d levers) (now (table .entry)) (now (table .exit)) ⌝ }
 {
     let mut next = 0;
     let mut row = 0;

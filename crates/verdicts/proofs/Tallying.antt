@@ -10,14 +10,15 @@ use mathlib.Core.List.{List, [], _∷_, _++_, map}
 use lib.ListN.{length, getD, take}
 use lib.Seq.{take-suc, length-take-le}
 use lib.Dec.{eqb}
-use Rattle.sharing.specs.Groups.{total}
+use Rattle.sharing.specs.Groups.{total, mostLimit}
 use Rattle.sharing.specs.Sharing.{moment}
 use Rattle.sharing.proofs.Totals.{total-snoc}
 use Rattle.verdicts.specs.Tally.{pullingRows}
 use Rattle.verdicts.specs.Bolts.{idlePair, pullingPair, boltTotal}
-use Rattle.joint.specs.declared.Bolts.{Bolts}
 use Rattle.joint.specs.declared.Column.{Column}
 use Rattle.joint.specs.declared.Plate.{Plate}
+use Rattle.strength.specs.declared.BoltStrengths.{BoltStrengths}
+use Rattle.verdicts.specs.Asked.{mostLever, mostRowMoment}
 
 moment-snoc : (levers forces : List ℕ) (h f : ℕ) → length levers ≡ length forces
     → moment (levers ++ (h ∷ [])) (forces ++ (f ∷ [])) ≡ moment levers forces + f * h
@@ -38,8 +39,8 @@ pub record Counted (levers forces : List ℕ) (sum z pulling row : ℕ) : Type 0
   pub sums : sum ≡ total (take row forces)
   pub moments : z ≡ moment (take row levers) (take row forces)
   pub pulls : pulling ≡ pullingRows (take row forces)
-  pub sum-le : sum ≤ 4000000000 * row
-  pub moment-le : z ≤ 80000000000000 * row
+  pub sum-le : sum ≤ mostLimit * row
+  pub moment-le : z ≤ mostRowMoment * row
   pub pulling-le : pulling ≤ row
 
 pub start : (levers forces : List ℕ) → Counted levers forces 0 0 0 0
@@ -51,8 +52,12 @@ pub either-le : (test : Bool) → cond test 0 1 ≤ 1
 either-le true = omega arith
 either-le false = omega arith
 
+-- a row's force times its lever
+pub row-moment-le : (force lever : ℕ) → force ≤ mostLimit → lever ≤ mostLever → force * lever ≤ mostRowMoment
+row-moment-le force lever small low = mul-le-mul {n₁ = force} {m₁ = lever} {n₂ = mostLimit} {m₂ = mostLever} small low
+
 pub one-more : (levers forces : List ℕ) (sum z pulling row : ℕ) → row < length levers → row < length forces
-    → getD levers row 0 ≤ 20000 → getD forces row 0 ≤ 4000000000 → (has : ℕ) → has ≡ cond (eqb (getD forces row 0) 0) 0 1
+    → getD levers row 0 ≤ mostLever → getD forces row 0 ≤ mostLimit → (has : ℕ) → has ≡ cond (eqb (getD forces row 0) 0) 0 1
     → Counted levers forces sum z pulling row
     → Counted levers forces (sum + getD forces row 0) (z + getD forces row 0 * getD levers row 0) (pulling + has) (row + 1)
 one-more levers forces sum z pulling row hl hf low small has eh c =
@@ -63,7 +68,7 @@ one-more levers forces sum z pulling row hl hf low small has eh c =
     let fs = take-suc forces row 0 hf in
     let same : length (take row levers) ≡ length (take row forces)
     = length-take-le row levers (omega arith) ∙ sym (length-take-le row forces (omega arith)) in
-    let product = mul-le-mul {n₁ = f} {m₁ = h} {n₂ = 4000000000} {m₂ = 20000} small low in
+    let product = row-moment-le f h small low in
     rw one
     (record {
       sums = ap (λ s. s + f) (c .sums) ∙ sym (total-snoc (take row forces) f) ∙ ap total (sym fs);
@@ -86,7 +91,8 @@ unfolding pullingRows
 by-kind idle pulling [] = omega (arith, zero-mul pulling, zero-mul idle)
 by-kind idle pulling (x ∷ xs) = one (eqb x 0) (by-kind idle pulling xs) (pulling-le-length xs)
   where
-    one : (none : Bool) → total (map (λ f. cond (eqb f 0) idle pulling) xs) ≡ pullingRows xs * pulling + (length xs - pullingRows xs) * idle
+    one : (none : Bool)
+        → total (map (λ f. cond (eqb f 0) idle pulling) xs) ≡ pullingRows xs * pulling + (length xs - pullingRows xs) * idle
         → pullingRows xs ≤ length xs
         → cond none idle pulling + total (map (λ f. cond (eqb f 0) idle pulling) xs)
         ≡ (cond none 0 1 + pullingRows xs) * pulling + (suc (length xs) - (cond none 0 1 + pullingRows xs)) * idle
@@ -98,14 +104,14 @@ by-kind idle pulling (x ∷ xs) = one (eqb x 0) (by-kind idle pulling xs) (pulli
         rw (k, add-mul 1 (pullingRows xs) pulling, one-mul) (omega arith)
 
 -- the bolts' total of a list of forces
-pub total-by-kind : (bolts : Bolts) (column : Column) (plate : Plate) (shearRows : ℕ) (forces : List ℕ)
-    → pullingRows forces * pullingPair bolts column plate + (length forces - pullingRows forces + shearRows) * idlePair bolts column plate
-    ≡ boltTotal bolts column plate shearRows forces
+pub total-by-kind : (bolt : BoltStrengths) (column : Column) (plate : Plate) (shearRows : ℕ) (forces : List ℕ)
+    → pullingRows forces * pullingPair bolt column plate + (length forces - pullingRows forces + shearRows) * idlePair bolt column plate
+    ≡ boltTotal bolt column plate shearRows forces
 unfolding boltTotal
-total-by-kind bolts column plate shearRows forces =
+total-by-kind bolt column plate shearRows forces =
     rw (
-      by-kind (idlePair bolts column plate) (pullingPair bolts column plate) forces,
-      add-mul (length forces - pullingRows forces) shearRows (idlePair bolts column plate),
+      by-kind (idlePair bolt column plate) (pullingPair bolt column plate) forces,
+      add-mul (length forces - pullingRows forces) shearRows (idlePair bolt column plate),
     ) (omega arith)
 
 -- the first rows of a list, one by one; a row that it lacks is 0

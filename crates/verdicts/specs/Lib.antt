@@ -1,5 +1,7 @@
--- The four verdicts, and what row forces come to.
+-- Document 01's verdicts (`Bending`, `Bolts`, `Welds`). What serves the code: what row forces come to (`Tally`), and what each function
+-- asks (`Asked`).
 pub mod Bending
 pub mod Bolts
 pub mod Welds
 pub mod Tally
+pub mod Asked

@@ -1,23 +1,24 @@
 // Verdicts on a joint's row forces: bending, bolts, flange weld and web weld (document 01, 'Verdicts').
 // Work calls these for joints whose fields are in range.
 ghost use mathlib.Core.Path.{_≡_};
-ghost use Prim.Native.Nat.{ℕ, _+_, _*_, _/_, _≤_, _<_, min};
+ghost use Prim.Native.Nat.{ℕ, _+_, _*_, _/_, _≤_, min};
 ghost use mathlib.Core.Bool.{cond};
 ghost use lib.Dec.{eqb, leb};
-ghost use lib.ListN.{length, getD, take};
-ghost use Rattle.arithmetic.specs.Range.{Within, _to_};
-ghost use Rattle.joint.specs.InRange.{BoltsInRange, ColumnInRange, BeamInRange, PlateInRange, LoadsInRange, FaceInRange};
-ghost use Rattle.strength.specs.Bolt.{boltStrengths, boltBearing};
-ghost use Rattle.strength.specs.Steel.{steelStrength, weldStrength};
-ghost use Rattle.strength.specs.InRange.{BoltInRange};
+ghost use lib.ListN.{getD, take};
+ghost use Rattle.arithmetic.specs.Range.{Within};
+ghost use Rattle.joint.specs.InRange.{BeamInRange, FaceInRange};
+ghost use Rattle.strength.specs.Steel.{weldStrength};
+ghost use Rattle.strength.specs.InRange.{yieldStrengths};
+ghost use Rattle.sharing.specs.Groups.{mostLimit};
 ghost use Rattle.verdicts.specs.Bending.{carries};
 ghost use Rattle.verdicts.specs.Bolts.{bearing, idlePair, pullingPair};
 ghost use Rattle.verdicts.specs.Welds.{flangeWeldBy, webWeldPasses, topRows};
 ghost use Rattle.verdicts.specs.Tally.{tallyOf};
+ghost use Rattle.verdicts.specs.Asked.{mostMoment, TallyAsked, BendingAsked, BearingAsked, PairAsked, PairsAsked, BoltsAsked};
+ghost use Rattle.verdicts.specs.Asked.{WeldAsked, FlangeWeldAsked};
 use arithmetic::least;
 use joint::AxialForce;
 use joint::Beam;
-use joint::Bolts;
 use joint::Column;
 use joint::Face;
 use joint::Loads;
@@ -35,8 +36,8 @@ pub struct Tally {
 }
 
 pub fn tally_forces(rows: usize, levers: [u32; 8], forces: [u64; 8]) -> Tally
-    requires { ⌜ (rows ≤ 8) × ((k : ℕ) → getD levers k 0 ≤ 20000) × ((k : ℕ) → getD forces k 0 ≤ 4000000000) ⌝ }
-    ensures { λ r. ⌜ (r ≡ tallyOf (take rows levers) (take rows forces)) × (r .moment ≤ 1000000000000000) ⌝ }
+    requires { ⌜ TallyAsked rows levers forces ⌝ }
+    ensures { λ r. ⌜ (r ≡ tallyOf (take rows levers) (take rows forces)) × (r .moment ≤ mostMoment) ⌝ }
 {
     let mut sum = 0;
     let mut moment = 0;
@@ -64,7 +65,7 @@ fn has_force(force: u64) -> u64
 
 // Bending: what is asked of the moment is moved to the side where it isn't below 0.
 pub fn carries_moment(loads: Loads, beam: Beam, moment: u64) -> bool
-    requires { ⌜ LoadsInRange loads × BeamInRange beam × (moment ≤ 1000000000000000) ⌝ }
+    requires { ⌜ BendingAsked loads beam moment ⌝ }
     ensures { λ r. ⌜ r ≡ carries loads beam moment ⌝ }
 {
     let arm = (beam.depth - beam.flange) as u64;
@@ -77,37 +78,29 @@ pub fn carries_moment(loads: Loads, beam: Beam, moment: u64) -> bool
 }
 
 // A pair of bolts bearing on a plate or a flange.
-fn pair_bearing(diameter: u32, thickness: u32, strength: u64) -> u64
-    requires { ⌜ Within (12 to 30) diameter × Within (0 to 500) thickness × Within (0 to 1300) strength ⌝ }
+fn pair_bearing(diameter: u64, thickness: u32, strength: u64) -> u64
+    requires { ⌜ BearingAsked diameter thickness strength ⌝ }
     ensures { λ r. ⌜ r ≡ diameter * thickness * strength / 5 ⌝ }
 {
-    (diameter as u64) * (thickness as u64) * strength / 5
+    diameter * (thickness as u64) * strength / 5
 }
 
 // The lesser bearing of a pair, on the plate and on the column flange.
-fn bearing_of(bolts: Bolts, strength: u64, column: Column, plate: Plate) -> u64
-    requires { ⌜ BoltsInRange bolts × ColumnInRange column × PlateInRange plate × (strength ≡ boltBearing (bolts .class)) ⌝ }
-    ensures { λ r. ⌜ r ≡ bearing bolts column plate ⌝ }
+fn bearing_of(bolt: BoltStrengths, column: Column, plate: Plate) -> u64
+    requires { ⌜ PairAsked bolt column plate ⌝ }
+    ensures { λ r. ⌜ r ≡ bearing bolt column plate ⌝ }
 {
-    let on_plate = least(strength, strength::steel_bearing(plate.grade));
-    let on_column = least(strength, strength::steel_bearing(column.grade));
+    let on_plate = least(bolt.bearing, strength::steel_bearing(plate.grade));
+    let on_column = least(bolt.bearing, strength::steel_bearing(column.grade));
     least(
-        pair_bearing(bolts.diameter, plate.thickness, on_plate),
-        pair_bearing(bolts.diameter, column.flange, on_column),
+        pair_bearing(bolt.diameter, plate.thickness, on_plate),
+        pair_bearing(bolt.diameter, column.flange, on_column),
     )
-}
-
-// S, the shear of a pair.
-fn pair_shear(bolt: BoltStrengths) -> u64
-    requires { ⌜ BoltInRange bolt ⌝ }
-    ensures { λ r. ⌜ r ≡ 2 * bolt .area * bolt .shear / 10 ⌝ }
-{
-    2 * bolt.area * bolt.shear / 10
 }
 
 // What pairs in rows with a force and pairs in rows without one count together.
 fn pairs_total(pulling: u64, idle: u64, shear: u64, bearing: u64) -> u64
-    requires { ⌜ Within (0 to 8) pulling × Within (0 to 16) idle × Within (0 to 448800) shear ⌝ }
+    requires { ⌜ PairsAsked pulling idle shear ⌝ }
     ensures { λ r. ⌜ r ≡ pulling * min (2 * shear / 5) bearing + idle * min shear bearing ⌝ }
 {
     pulling * least(2 * shear / 5, bearing) + idle * least(shear, bearing)
@@ -115,7 +108,6 @@ fn pairs_total(pulling: u64, idle: u64, shear: u64, bearing: u64) -> u64
 
 // Bolts: rows with a force, and rows without one, shear rows among them.
 pub fn bolts_carry(
-    bolts: Bolts,
     bolt: BoltStrengths,
     column: Column,
     plate: Plate,
@@ -123,17 +115,16 @@ pub fn bolts_carry(
     idle: u64,
     shear: u32,
 ) -> bool
-    requires { ⌜ BoltsInRange bolts × ColumnInRange column × PlateInRange plate ⌝ }
-    requires { ⌜ (bolt ≡ boltStrengths bolts) × Within (0 to 8) pulling × Within (0 to 16) idle ⌝ }
-    ensures { λ r. ⌜ r ≡ leb shear (pulling * pullingPair bolts column plate + idle * idlePair bolts column plate) ⌝ }
+    requires { ⌜ BoltsAsked bolt column plate pulling idle ⌝ }
+    ensures { λ r. ⌜ r ≡ leb shear (pulling * pullingPair bolt column plate + idle * idlePair bolt column plate) ⌝ }
 {
-    let bearing = bearing_of(bolts, bolt.bearing, column, plate);
-    (shear as u64) <= pairs_total(pulling, idle, pair_shear(bolt), bearing)
+    let bearing = bearing_of(bolt, column, plate);
+    (shear as u64) <= pairs_total(pulling, idle, bolt.pair_shear, bearing)
 }
 
 // The sum of the first three rows, two if flush; places past the last row are 0.
 pub fn top_rows(extended: u32, forces: [u64; 8]) -> u64
-    requires { ⌜ ((k : ℕ) → getD forces k 0 ≤ 4000000000) ⌝ }
+    requires { ⌜ ((k : ℕ) → getD forces k 0 ≤ mostLimit) ⌝ }
     ensures { λ r. ⌜ r ≡ topRows extended forces ⌝ }
 {
     let two = forces[0] + forces[1];
@@ -142,7 +133,7 @@ pub fn top_rows(extended: u32, forces: [u64; 8]) -> u64
 
 // What a weld of a leg and a length carries.
 fn weld_capacity(leg: u32, length: u32, strength: u64) -> u64
-    requires { ⌜ Within (0 to 250) leg × Within (0 to 15000) length × Within (220 to 250) strength ⌝ }
+    requires { ⌜ WeldAsked leg length strength ⌝ }
     ensures { λ r. ⌜ r ≡ 14 * leg * length * strength / 1000 ⌝ }
 {
     14 * (leg as u64) * (length as u64) * strength / 1000
@@ -150,7 +141,7 @@ fn weld_capacity(leg: u32, length: u32, strength: u64) -> u64
 
 // Flange weld, from yb, pw and the sum of the top rows.
 pub fn flange_weld(face: Face, beam_strength: u64, weld_strength: u64, top: u64) -> bool
-    requires { ⌜ FaceInRange face × («beam_strength» ≡ steelStrength (face .beam .grade) (face .beam .flange)) × («weld_strength» ≡ weldStrength (face .beam .grade) (face .plate .grade)) ⌝ }
+    requires { ⌜ FlangeWeldAsked face «beam_strength» «weld_strength» ⌝ }
     ensures { λ r. ⌜ r ≡ flangeWeldBy face top ⌝ }
 {
     let beam = face.beam;
@@ -164,7 +155,7 @@ pub fn flange_weld(face: Face, beam_strength: u64, weld_strength: u64, top: u64)
 
 // What the beam's tension flange carries.
 fn flange_capacity(strength: u64, beam: Beam) -> u64
-    requires { ⌜ Within (255 to 355) strength × BeamInRange beam ⌝ }
+    requires { ⌜ Within yieldStrengths strength × BeamInRange beam ⌝ }
     ensures { λ r. ⌜ r ≡ strength * beam .flange * beam .width / 100 ⌝ }
 {
     strength * (beam.flange as u64) * (beam.width as u64) / 100

@@ -1,49 +1,53 @@
 -- What Work's refusals leave: from an answer that is no refusal, that every test of the list holds, and from those tests what the limits
 -- rely on and a cap that isn't below 0. Assumes nothing.
 use mathlib.Core.Path.{_≡_, refl, sym, ap, _∙_}
-use mathlib.Core.Bool.{Bool, true, false, not, _&&_, _||_}
+use mathlib.Core.Bool.{Bool, true, false, cond, _&&_, _||_}
 use Prim.Native.Nat.{ℕ, zero, suc}
 use native.Mathlib.Omega.{arith}
 use mathlib.Core.List.{List, _∷_}
-use lib.ListN.{length}
+use lib.ListN.{length, take}
 use lib.Dec.{ltb}
 use lib.IntN.{ℤ, pos, negsuc, _-ℤ_}
 use lib.Signed.{ltZ}
 use borrow.Author.Tests.{ltb-false, eq-eqb, not-true}
 use Rattle.arithmetic.specs.Checks.{Check, firstFailing}
 use Rattle.arithmetic.proofs.Checks.{held}
-use Rattle.joint.specs.InRange.{InRange}
-use Rattle.joint.specs.declared.Joint.{Joint}
+use Rattle.joint.specs.InRange.{ColumnInRange, FaceInRange}
+use Rattle.joint.specs.declared.Column.{Column}
+use Rattle.joint.specs.declared.Face.{Face}
 use Rattle.joint.specs.declared.Loads.{Loads}
+use Rattle.strength.specs.declared.BoltStrengths.{BoltStrengths}
 use Rattle.spacing.specs.Spacing.{spacingOf}
 use Rattle.tension.specs.Admissible.{Admissible}
 use Rattle.refusals.specs.Refusals.{leversFall, tooTight}
 use Rattle.refusals.proofs.Rows.{falls}
-use Rattle.governing.specs.Cap.{tensionCap, overCompressed, newtonsOf}
+use Rattle.governing.specs.Cap.{tensionCap, overCompressed, newtonsOf, capCase}
+use Rattle.governing.specs.declared.Cap.the-variants.{Newtons, Exceeded}
 use Rattle.outcome.specs.declared.Outcome.{Outcome}
-use Rattle.work.specs.Work.{refusedBy}
+use Rattle.work.specs.Work.{refusedBy, refusals}
+use Rattle.work.specs.declared.Admission.the-variants.{Admitted, Refused}
 
 neither : (a b : Bool) → (a || b) ≡ false → (a ≡ false) × (b ≡ false)
 neither false b e = (refl, e)
 neither true b e = let never : _≡_ {A = ℕ} 0 1 = cc in absurd (omega arith)
 
 -- what refusals 10, 11 and 13 leave
-pub admissible : (joint : Joint) → InRange joint → length (joint .face .levers) ≡ 8 → leversFall (joint .face) ≡ true
-    → tooTight (joint .face .extended) (spacingOf (joint .column) (joint .face)) ≡ false → Admissible joint
+pub admissible : (column : Column) (face : Face) → ColumnInRange column → FaceInRange face → length (face .levers) ≡ 8
+    → leversFall face ≡ true → tooTight (face .extended) (spacingOf column face) ≡ false → Admissible column face
 unfolding leversFall tooTight
-admissible joint r eight falling loose =
-    let face = joint .face in
-    let column = neither _ _ loose in
-    let plate = neither _ _ (column .1) in
-    let extension = neither _ _ (plate .1) in
-    let edges = neither _ _ (extension .1) in
-    let mx = spacingOf (joint .column) face .extension in
+admissible column face c f eight falling loose =
+    let past-column = neither _ _ loose in
+    let past-plate = neither _ _ (past-column .1) in
+    let past-extension = neither _ _ (past-plate .1) in
+    let edges = neither _ _ (past-extension .1) in
+    let mx = spacingOf column face .extension in
     record {
-      in-range = r;
-      falls = falls (face .levers) (face .rows) (omega (arith, eight, r .face .rows .high)) falling;
-      column-m = ltb-false _ 500 (column .0);
-      plate-m = ltb-false _ 500 (plate .0);
-      extension-m = λ extended. ltb-false _ 500 (ap (λ b. b && ltb mx 500) (sym (eq-eqb (face .extended) 1 extended)) ∙ extension .0);
+      column = c;
+      face = f;
+      falls = falls (face .levers) (face .rows) (omega (arith, eight, f .rows .high)) falling;
+      column-m = ltb-false _ 500 (past-column .0);
+      plate-m = ltb-false _ 500 (past-plate .0);
+      extension-m = λ extended. ltb-false _ 500 (ap (λ b. b && ltb mx 500) (sym (eq-eqb (face .extended) 1 extended)) ∙ past-extension .0);
       column-edge = ltb-false _ 1000 (edges .0);
       plate-edge = ltb-false _ 1000 (edges .1);
     }
@@ -58,6 +62,38 @@ cap-newtons loads force under = by-sign (loads .axial) under
     by-sign (pos zero) h = refl
     by-sign (pos (suc n)) h = rw h
     by-sign (negsuc n) h = refl
+
+-- the same of a face that is admitted
+pub admitted : (column : Column) (bolt : BoltStrengths) (face : Face) → ColumnInRange column → FaceInRange face → length (face .levers) ≡ 8
+    → firstFailing Admitted Refused (take 4 (refusals column bolt face)) ≡ Admitted → Admissible column face
+unfolding refusals
+admitted column bolt face c f eight e =
+    let p11 = held Admitted Refused 11 _ _ Admitted e (apart 11) in
+    let p12 = held Admitted Refused 12 _ _ Admitted (p11 .1) (apart 12) in
+    let p13 = held Admitted Refused 13 _ _ Admitted (p12 .1) (apart 13) in
+    admissible column face c f eight (p11 .0) (not-true _ (p13 .0))
+  where
+    apart : (number : ℕ) → Refused number ≡ Admitted → ⊥
+    apart number same = let never : _≡_ {A = ℕ} 0 1 = cc in absurd (omega arith)
+
+-- which way 15 goes, by the cap's case
+pub exceeded : (loads : Loads) (force : ℕ) → Exceeded ≡ capCase loads force → overCompressed loads force ≡ true
+unfolding capCase
+exceeded loads force e = by-test (overCompressed loads force) e
+  where
+    by-test : (over : Bool) → Exceeded ≡ cond over Exceeded (Newtons (newtonsOf (tensionCap loads force))) → over ≡ true
+    by-test true h = refl
+    by-test false h = let never : _≡_ {A = ℕ} 0 1 = cc in absurd (omega arith)
+
+pub within-cap : (loads : Loads) (force cap : ℕ) → Newtons cap ≡ capCase loads force
+    → (overCompressed loads force ≡ false) × (cap ≡ newtonsOf (tensionCap loads force))
+unfolding capCase
+within-cap loads force cap e = by-test (overCompressed loads force) e
+  where
+    by-test : (over : Bool) → Newtons cap ≡ cond over Exceeded (Newtons (newtonsOf (tensionCap loads force)))
+        → (over ≡ false) × (cap ≡ newtonsOf (tensionCap loads force))
+    by-test true h = let never : _≡_ {A = ℕ} 0 1 = cc in absurd (omega arith)
+    by-test false h = (refl, cc)
 
 -- a refusal has its number
 pub refusal-is : (number field : ℕ) (answer : Outcome) → refusedBy number field ≡ answer → answer .refusal .number ≡ 0 → number ≡ 0

@@ -11,14 +11,16 @@ use lib.Seq.{length-take-le, getD-take}
 use lib.Dec.{leb→le, le→leb}
 use lib.IntN.{pos}
 use borrow.Author.Tests.{not-true}
+use Rattle.arithmetic.proofs.Checks.{none-left}
 use Rattle.joint.specs.Fields.{fieldCheck}
 use Rattle.joint.specs.declared.Joint.{Joint}
 use Rattle.joint.specs.declared.Column.{Column}
-use Rattle.joint.specs.declared.Bolts.{Bolts}
 use Rattle.joint.specs.declared.Face.{Face}
 use Rattle.joint.specs.declared.FieldCheck.{FieldCheck}
 use Rattle.joint.specs.declared.FieldCheck.the-variants.{AllInRange, Outside}
-use Rattle.joint.specs.InRange.{InRange}
+use Rattle.joint.specs.InRange.{ColumnInRange, FaceInRange}
+use Rattle.strength.specs.Bolt.{boltStrengths}
+use Rattle.strength.specs.declared.BoltStrengths.{BoltStrengths}
 use Rattle.joint.proofs.InRange.{in-range, row-lever}
 use Rattle.sharing.specs.Groups.{Table, withCap}
 use Rattle.sharing.specs.Sharing.{Competes, Falling}
@@ -32,24 +34,24 @@ use Rattle.verdicts.proofs.Signs.{carries-monotone}
 use Rattle.outcome.specs.declared.Outcome.{Outcome}
 use Rattle.work.specs.OneFace.{rowsOf, leversOf, limitOf, capOf, forcesOf, carriesOf}
 use Rattle.work.specs.Work.{refusals, resultOf, workedFace, workedBy, worked}
-use Rattle.work.specs.Demand.{CompetesFor, Demand3, programsList}
+use Rattle.work.specs.Demand.{CompetesFor, Demand3, Demand3Of, programsList}
 use Rattle.work.proofs.Forces.{rows-kept}
 use Rattle.work.proofs.Answers.{admissible, cap-newtons, refusal-is, passes}
 
-module _ (column : Column) (bolts : Bolts) (face : Face) (a : Admissible (record { column = column; bolts = bolts; face = face }))
+module _ (column : Column) (bolt : BoltStrengths) (face : Face) (a : Admissible column face)
     (eight : length (face .levers) ≡ 8) (cap : capOf column face ≡ pos (newtonsOf (capOf column face))) where
   n : ℕ
   n = rowsOf face
 
   -- the limits, and the same with the cap among them
   limit : Table
-  limit = limitOf column bolts face
+  limit = limitOf column bolt face
 
   capped : Table
-  capped = withCap (limitOf column bolts face) (rowsOf face) (newtonsOf (capOf column face))
+  capped = withCap (limitOf column bolt face) (rowsOf face) (newtonsOf (capOf column face))
 
   enough : rowsOf face ≤ length (face .levers)
-  enough = omega (arith, eight, a .in-range .face .rows .high)
+  enough = omega (arith, eight, a .face .rows .high)
 
   falling : Falling (leversOf face) (rowsOf face)
   falling =
@@ -58,38 +60,38 @@ module _ (column : Column) (bolts : Bolts) (face : Face) (a : Admissible (record
       record {
         rows = length-take-le (rowsOf face) levers enough;
         falls = λ k h. rw (inside (suc k) 0 h, inside k 0 (omega arith)) (a .falls k h);
-        positive = λ k h. rw (inside k 0 h) (row-lever face (a .in-range .face) k h (omega (arith, enough)) .low);
+        positive = λ k h. rw (inside k 0 h) (row-lever face (a .face) k h (omega (arith, enough)) .low);
       }
 
   -- a list competes under the limits with the cap exactly when it keeps the limits and the cap
-  under : (other : List ℕ) → CompetesFor column bolts face other → Competes capped (rowsOf face) other
+  under : (other : List ℕ) → CompetesFor column bolt face other → Competes capped (rowsOf face) other
   unfolding capped
   under other c =
       let kept = rw cap at (c .capped) in
-      cap-is-a-limit (limitOf column bolts face) (rowsOf face) (newtonsOf (capOf column face)) other .1 (c .limits, leb→le _ _ (kept .le))
+      cap-is-a-limit (limitOf column bolt face) (rowsOf face) (newtonsOf (capOf column face)) other .1 (c .limits, leb→le _ _ (kept .le))
 
-  over : (other : List ℕ) → Competes capped (rowsOf face) other → CompetesFor column bolts face other
+  over : (other : List ℕ) → Competes capped (rowsOf face) other → CompetesFor column bolt face other
   unfolding capped
   over other c =
-      let both = cap-is-a-limit (limitOf column bolts face) (rowsOf face) (newtonsOf (capOf column face)) other .0 c in
+      let both = cap-is-a-limit (limitOf column bolt face) (rowsOf face) (newtonsOf (capOf column face)) other .0 c in
       record { limits = both .0; capped = rw cap (record { le = le→leb _ _ (both .1) }) }
 
   -- the program's list is the forces
-  own : programsList face (resultOf column bolts face .forces) ≡ forcesOf column bolts face
+  own : programsList face (resultOf column bolt face .forces) ≡ forcesOf column bolt face
   unfolding resultOf forcesOf
-  own = rows-kept (rowsOf face) (withCap (limitOf column bolts face) (rowsOf face) (newtonsOf (capOf column face)))
+  own = rows-kept (rowsOf face) (withCap (limitOf column bolt face) (rowsOf face) (newtonsOf (capOf column face)))
 
-  of-forces : (forces : List ℕ) → forcesOf column bolts face ≡ forces → Best capped (rowsOf face) forces
+  of-forces : (forces : List ℕ) → forcesOf column bolt face ≡ forces → Best capped (rowsOf face) forces
   unfolding forcesOf capped
   of-forces forces e = rw e at (best capped (rowsOf face))
 
-  demand : Demand3 column bolts face (resultOf column bolts face .forces) (resultOf column bolts face .verdicts .bending)
+  demand : Demand3 column bolt face (resultOf column bolt face .forces) (resultOf column bolt face .verdicts .bending)
   unfolding resultOf
   demand =
-      let list = programsList face (resultOf column bolts face .forces) in
+      let list = programsList face (resultOf column bolt face .forces) in
       let b = of-forces list (sym own) in
       let fails = b .fails (leversOf face) falling (carries (face .loads) (face .beam)) (carries-monotone _ _) in
-      let same : carriesOf face list ≡ carriesOf face (forcesOf column bolts face) = ap (carriesOf face) own in
+      let same : carriesOf face list ≡ carriesOf face (forcesOf column bolt face) = ap (carriesOf face) own in
       record {
         competes = over _ (b .competes);
         sums = λ other c. b .sums other (under other c);
@@ -101,28 +103,28 @@ module _ (column : Column) (bolts : Bolts) (face : Face) (a : Admissible (record
       }
 
 -- a face that no refusal turns down
-of-face : (column : Column) (bolts : Bolts) (face : Face) → InRange (record { column = column; bolts = bolts; face = face })
-    → length (face .levers) ≡ 8 → (answer : Outcome) → workedFace column bolts face ≡ answer → answer .refusal .number ≡ 0
-    → Demand3 column bolts face (answer .result .forces) (answer .result .verdicts .bending)
+of-face : (column : Column) (bolt : BoltStrengths) (face : Face) → ColumnInRange column → FaceInRange face → length (face .levers) ≡ 8
+    → (answer : Outcome) → workedFace column bolt face ≡ answer → answer .refusal .number ≡ 0
+    → Demand3 column bolt face (answer .result .forces) (answer .result .verdicts .bending)
 unfolding workedFace refusals capOf
-of-face column bolts face r eight answer e none =
+of-face column bolt face c f eight answer e none =
     let p11 = passes 10 _ _ _ answer e none in
     let p12 = passes 11 _ _ _ answer (p11 .1) none in
     let p13 = passes 12 _ _ _ answer (p12 .1) none in
     let p14 = passes 13 _ _ _ answer (p13 .1) none in
     let p15 = passes 14 _ _ _ answer (p14 .1) none in
-    let a = admissible (record { column = column; bolts = bolts; face = face }) r eight (p11 .0) (not-true _ (p13 .0)) in
-    rw (sym (p15 .1)) (demand column bolts face a eight (cap-newtons _ _ (not-true _ (p15 .0))))
+    let a = admissible column face c f eight (p11 .0) (not-true _ (p13 .0)) in
+    rw (sym (p15 .1) ∙ none-left _ _) (demand column bolt face a eight (cap-newtons _ _ (not-true _ (p15 .0))))
 
 -- Demand 3: for every joint whose answer is no refusal. A joint in the machine has eight levers.
 pub worked-demand : (joint : Joint) → length (joint .face .levers) ≡ 8 → (answer : Outcome) → worked joint ≡ answer
-    → answer .refusal .number ≡ 0
-    → Demand3 (joint .column) (joint .bolts) (joint .face) (answer .result .forces) (answer .result .verdicts .bending)
+    → answer .refusal .number ≡ 0 → Demand3Of joint answer
 unfolding worked
-worked-demand joint eight answer e none = by-fields (fieldCheck joint) refl e
+worked-demand joint eight answer e none = by-fields (fieldCheck (joint .column) (joint .bolts) (joint .face)) refl e
   where
-    by-fields : (found : FieldCheck) → fieldCheck joint ≡ found
-        → workedBy found (workedFace (joint .column) (joint .bolts) (joint .face)) ≡ answer
-        → Demand3 (joint .column) (joint .bolts) (joint .face) (answer .result .forces) (answer .result .verdicts .bending)
-    by-fields AllInRange f w = of-face (joint .column) (joint .bolts) (joint .face) (in-range joint f) eight answer w none
-    by-fields (Outside field) f w = let never = refusal-is 10 field answer w none in absurd (omega arith)
+    by-fields : (found : FieldCheck) → fieldCheck (joint .column) (joint .bolts) (joint .face) ≡ found
+        → workedBy found (workedFace (joint .column) (boltStrengths (joint .bolts)) (joint .face)) ≡ answer → Demand3Of joint answer
+    by-fields AllInRange found w =
+        let r = in-range (joint .column) (joint .bolts) (joint .face) found in
+        of-face (joint .column) (boltStrengths (joint .bolts)) (joint .face) (r .column) (r .face) eight answer w none
+    by-fields (Outside field) found w = let never = refusal-is 10 field answer w none in absurd (omega arith)

@@ -10,12 +10,12 @@ use lib.Seq.{getD-set-same, getD-set-other, take-at}
 use lib.Dec.{eqb}
 use borrow.Author.Tests.{eqb-true, eqb-false}
 use Rattle.arithmetic.proofs.Store.{store-keeps}
-use Rattle.sharing.specs.Groups.{Table, groupsAbove, listed, withCap}
+use Rattle.sharing.specs.Groups.{Table, groupsAbove, groupCount, listed, withCap, mostLimit}
 use Rattle.sharing.specs.Sharing.{shared}
-use Rattle.sharing.proofs.Places.{group-count-le, one-group-a-place}
+use Rattle.sharing.proofs.Places.{group-count-le, groups-inside, one-group-a-place}
 use Rattle.sharing.proofs.Agreement.{shared-agrees}
 use Rattle.sharing.proofs.Theorems.{best}
-use Rattle.allocation.specs.Allocation.{eightPlaces}
+use Rattle.joint.specs.Places.{eightPlaces}
 use Rattle.allocation.specs.Steps.{Shareable}
 use Rattle.allocation.proofs.Rows.{force-le-most}
 use Rattle.tension.specs.Admissible.{Filled}
@@ -26,7 +26,7 @@ unfolding eightPlaces
 rows-kept n limit =
     take-at (shared limit n) (replicate (8 - length (shared limit n)) 0) n (best limit n .competes .rows)
 
-module _ (n cap : ℕ) (limit : Table) (table : List ℕ) (filled : Filled n limit table) (some : 1 ≤ n) (few : n ≤ 8)
+module _ (n cap : ℕ) (limit : Table) (entry table : List ℕ) (filled : Filled n limit entry table) (some : 1 ≤ n) (few : n ≤ 8)
     (stored : ℕ) (lower : stored ≡ min (getD table (n - 1) 0) cap) where
   -- the place of group 1 to n
   whole : groupsAbove n 0 + ((n - 1) - 0) ≡ n - 1
@@ -66,12 +66,18 @@ module _ (n cap : ℕ) (limit : Table) (table : List ℕ) (filled : Filled n lim
   pub forces-agree : shared (listed n (set table (n - 1) stored)) n ≡ shared (withCap limit n cap) n
   forces-agree = shared-agrees _ _ n agrees
 
-  bounded : (k : ℕ) → getD (set table (n - 1) stored) k 0 ≤ 4000000000
-  bounded = store-keeps 4000000000 table (n - 1) stored (filled .bounded) (omega (arith, lower, filled .bounded (n - 1)))
+  bounded : (k : ℕ) → k < groupCount n → getD (set table (n - 1) stored) k 0 ≤ mostLimit
+  bounded k h =
+      let own = filled .bounded (n - 1) (omega (arith, groups-inside n 0 (omega arith))) in
+      store-keeps mostLimit table (n - 1) stored k (filled .bounded k h) (omega (arith, lower))
 
   pub shareable : Shareable n (set table (n - 1) stored)
   shareable =
-      record { rows = few; enough = omega (arith, length-set table (n - 1) stored, filled .size, group-count-le n few); bounded = λ k h. bounded k }
+      record {
+        rows = few;
+        enough = omega (arith, length-set table (n - 1) stored, filled .size, group-count-le n few);
+        bounded = bounded;
+      }
 
-  pub force-small : (k : ℕ) → getD (eightPlaces (shared (listed n (set table (n - 1) stored)) n)) k 0 ≤ 4000000000
+  pub force-small : (k : ℕ) → getD (eightPlaces (shared (listed n (set table (n - 1) stored)) n)) k 0 ≤ mostLimit
   force-small = force-le-most n (set table (n - 1) stored) shareable

@@ -8,11 +8,11 @@ use mathlib.Core.List.{List, [], _∷_, _++_}
 use lib.ListN.{length, take, replicate}
 use lib.Dec.{leb, eqb}
 use Rattle.joint.specs.declared.Column.{Column}
-use Rattle.joint.specs.declared.Bolts.{Bolts}
+use Rattle.strength.specs.declared.BoltStrengths.{BoltStrengths}
 use Rattle.joint.specs.declared.Face.{Face}
 use Rattle.sharing.specs.Groups.{total, withCap}
 use Rattle.sharing.proofs.Theorems.{best}
-use Rattle.allocation.specs.Allocation.{eightPlaces}
+use Rattle.joint.specs.Places.{eightPlaces}
 use Rattle.verdicts.specs.Tally.{pullingRows}
 use Rattle.verdicts.specs.Bolts.{idlePair, pullingPair, boltsPass}
 use Rattle.verdicts.specs.Welds.{topRows}
@@ -35,21 +35,21 @@ pub top-judged : (extended : ℕ) (forces : List ℕ) → topRows extended (eigh
 unfolding topRows eightPlaces
 top-judged extended forces = top-of-places (cond (eqb extended 0) 2 3) (8 - length forces) forces
 
-module _ (column : Column) (bolts : Bolts) (face : Face) where
-  row-count : length (forcesOf column bolts face) ≡ rowsOf face
+module _ (column : Column) (bolt : BoltStrengths) (face : Face) where
+  row-count : length (forcesOf column bolt face) ≡ rowsOf face
   unfolding forcesOf
-  row-count = best (withCap (limitOf column bolts face) (rowsOf face) (newtonsOf (capOf column face))) (rowsOf face) .competes .rows
+  row-count = best (withCap (limitOf column bolt face) (rowsOf face) (newtonsOf (capOf column face))) (rowsOf face) .competes .rows
 
-  pub pulling-le : pullingRows (forcesOf column bolts face) ≤ rowsOf face
-  pulling-le = omega (arith, pulling-le-length (forcesOf column bolts face), row-count)
+  pub pulling-le : pullingRows (forcesOf column bolt face) ≤ rowsOf face
+  pulling-le = omega (arith, pulling-le-length (forcesOf column bolt face), row-count)
 
-  pub bolts-judged : (pulling idle : ℕ) → pulling ≡ pullingRows (forcesOf column bolts face) → idle ≡ rowsOf face + face .«shear_rows» - pulling
-      → leb (face .loads .shear) (pulling * pullingPair bolts column (face .plate) + idle * idlePair bolts column (face .plate))
-      ≡ boltsPass bolts column (face .plate) (face .«shear_rows») (face .loads .shear) (forcesOf column bolts face)
+  pub bolts-judged : (pulling idle : ℕ) → pulling ≡ pullingRows (forcesOf column bolt face) → idle ≡ rowsOf face + face .«shear_rows» - pulling
+      → leb (face .loads .shear) (pulling * pullingPair bolt column (face .plate) + idle * idlePair bolt column (face .plate))
+      ≡ boltsPass bolt column (face .plate) (face .«shear_rows») (face .loads .shear) (forcesOf column bolt face)
   unfolding boltsPass
   bolts-judged pulling idle ep ei =
-      let forces = forcesOf column bolts face in
+      let forces = forcesOf column bolt face in
       let others : idle ≡ length forces - pullingRows forces + face .«shear_rows» = omega (arith, row-count, pulling-le, ep, ei) in
       ap (leb (face .loads .shear))
-      (ap₂ (λ p i. p * pullingPair bolts column (face .plate) + i * idlePair bolts column (face .plate)) ep others
-      ∙ total-by-kind bolts column (face .plate) (face .«shear_rows») forces)
+      (ap₂ (λ p i. p * pullingPair bolt column (face .plate) + i * idlePair bolt column (face .plate)) ep others
+      ∙ total-by-kind bolt column (face .plate) (face .«shear_rows») forces)

@@ -8,16 +8,19 @@ use lib.ListN.{take}
 use lib.IntN.{pos}
 use lib.Signed.{_≤ℤ_}
 use Rattle.joint.specs.declared.Column.{Column}
-use Rattle.joint.specs.declared.Bolts.{Bolts}
+use Rattle.joint.specs.declared.Joint.{Joint}
 use Rattle.joint.specs.declared.Face.{Face}
+use Rattle.strength.specs.Bolt.{boltStrengths}
+use Rattle.strength.specs.declared.BoltStrengths.{BoltStrengths}
 use Rattle.sharing.specs.Groups.{total}
 use Rattle.sharing.specs.Sharing.{Competes}
+use Rattle.outcome.specs.declared.Outcome.{Outcome}
 use Rattle.work.specs.OneFace.{rowsOf, limitOf, capOf, momentOf, carriesOf}
 
 -- 'A list competes when it has one force for each row, in whole newtons, none below zero; when for every group i to j its forces on
 -- rows i to j add up to at most that group's limit, before any lowering; and when all its forces add up to at most the cap.'
-pub record CompetesFor (column : Column) (bolts : Bolts) (face : Face) (forces : List ℕ) : Type 0 where
-  pub limits : Competes (limitOf column bolts face) (rowsOf face) forces
+pub record CompetesFor (column : Column) (bolt : BoltStrengths) (face : Face) (forces : List ℕ) : Type 0 where
+  pub limits : Competes (limitOf column bolt face) (rowsOf face) forces
   pub capped : pos (total forces) ≤ℤ capOf column face
 
 -- 'The program's list is the forces that Work answers for the joint's rows': of the answer's eight places the first, one for each row.
@@ -25,15 +28,20 @@ abbrev pub programsList : Face → (places : List ℕ) → List ℕ
 programsList face places = take (rowsOf face) places
 
 -- Demand 3 of an answer for a face: its eight places for forces, and its verdict on bending.
-pub record Demand3 (column : Column) (bolts : Bolts) (face : Face) (places : List ℕ) (bending : Bool) : Type 0 where
+pub record Demand3 (column : Column) (bolt : BoltStrengths) (face : Face) (places : List ℕ) (bending : Bool) : Type 0 where
   -- the program's list competes
-  pub competes : CompetesFor column bolts face (programsList face places)
+  pub competes : CompetesFor column bolt face (programsList face places)
   -- for whatever list competes, the sum from the top row down to any row is at most the program's
-  pub sums : (other : List ℕ) → CompetesFor column bolts face other → (row : ℕ)
+  pub sums : (other : List ℕ) → CompetesFor column bolt face other → (row : ℕ)
       → total (take row other) ≤ total (take row (programsList face places))
   -- the list equals the program's exactly when the unrounded moments Z are equal
-  pub same : (other : List ℕ) → CompetesFor column bolts face other
+  pub same : (other : List ℕ) → CompetesFor column bolt face other
       → (other ≡ programsList face places) ↔ (momentOf face other ≡ momentOf face (programsList face places))
   -- the joint fails in bending exactly when no competing list carries the design moment with the design axial force
   pub fails-in-bending : (bending ≡ false)
-      ↔ ((other : List ℕ) → CompetesFor column bolts face other → carriesOf face other ≡ false)
+      ↔ ((other : List ℕ) → CompetesFor column bolt face other → carriesOf face other ≡ false)
+
+-- Demand 3 of Work's answer for a joint.
+abbrev pub Demand3Of : Joint → Outcome → Type 0
+Demand3Of joint outcome =
+    Demand3 (joint .column) (boltStrengths (joint .bolts)) (joint .face) (outcome .result .forces) (outcome .result .verdicts .bending)

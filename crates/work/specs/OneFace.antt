@@ -1,15 +1,15 @@
 -- What one face of the column comes to, from the crates below: limits, governing check, cap, row forces, moment and verdicts. A face is
--- worked with the column and the bolts that it shares. Assumes nothing.
+-- worked with the column that it stands on and the figures of its bolts. Assumes nothing.
 use Prim.Native.Nat.{ℕ}
 use mathlib.Core.Bool.{Bool}
 use mathlib.Core.List.{List}
 use lib.ListN.{take}
 use lib.IntN.{ℤ}
 use Rattle.joint.specs.declared.Column.{Column}
-use Rattle.joint.specs.declared.Bolts.{Bolts}
 use Rattle.joint.specs.declared.Face.{Face}
 use Rattle.strength.specs.Steel.{steelStrengths}
 use Rattle.strength.specs.declared.SteelStrengths.{SteelStrengths}
+use Rattle.strength.specs.declared.BoltStrengths.{BoltStrengths}
 use Rattle.sharing.specs.Groups.{Table, withCap}
 use Rattle.sharing.specs.Sharing.{shared, moment}
 use Rattle.tension.specs.Limits.{groupLimit}
@@ -30,8 +30,8 @@ abbrev pub leversOf : Face → List ℕ
 leversOf face = take (rowsOf face) (face .levers)
 
 -- the limit of each group, before any lowering
-abbrev pub limitOf : Column → Bolts → Face → Table
-limitOf column bolts face = groupLimit column bolts face
+abbrev pub limitOf : Column → BoltStrengths → Face → Table
+limitOf column bolt face = groupLimit column face (bolt .«pair_tension»)
 
 abbrev pub steelOf : Column → Face → SteelStrengths
 steelOf column face = steelStrengths column (face .beam) (face .plate)
@@ -47,10 +47,10 @@ unfolding governingOf
 capOf column face = tensionCap (face .loads) (forceOf (governingOf column face))
 
 -- 'It joins the limits as one on group 1 to n.'
-unfoldable pub forcesOf : Column → Bolts → Face → List ℕ
+unfoldable pub forcesOf : Column → BoltStrengths → Face → List ℕ
 unfolding capOf
-forcesOf column bolts face =
-    shared (withCap (limitOf column bolts face) (rowsOf face) (newtonsOf (capOf column face))) (rowsOf face)
+forcesOf column bolt face =
+    shared (withCap (limitOf column bolt face) (rowsOf face) (newtonsOf (capOf column face))) (rowsOf face)
 
 -- Z of a list of forces
 abbrev pub momentOf : Face → List ℕ → ℕ
@@ -60,10 +60,10 @@ momentOf face forces = moment (leversOf face) forces
 abbrev pub carriesOf : Face → List ℕ → Bool
 carriesOf face forces = carries (face .loads) (face .beam) (momentOf face forces)
 
-abbrev pub verdictsOf : Column → Bolts → Face → List ℕ → Verdicts
-verdictsOf column bolts face forces = record {
+abbrev pub verdictsOf : Column → BoltStrengths → Face → List ℕ → Verdicts
+verdictsOf column bolt face forces = record {
   bending = carriesOf face forces;
-  bolts = boltsPass bolts column (face .plate) (face .«shear_rows») (face .loads .shear) forces;
+  bolts = boltsPass bolt column (face .plate) (face .«shear_rows») (face .loads .shear) forces;
   «flange_weld» = flangeWeldPasses face forces;
   «web_weld» = webWeldPasses face;
 }

@@ -7,15 +7,15 @@ use Rattle.arithmetic.specs.Checks.{Check, firstFailing}
 use Rattle.joint.specs.Fields.{fieldCheck}
 use Rattle.joint.specs.declared.Joint.{Joint}
 use Rattle.joint.specs.declared.Column.{Column}
-use Rattle.joint.specs.declared.Bolts.{Bolts}
 use Rattle.joint.specs.declared.Face.{Face}
 use Rattle.joint.specs.declared.FieldCheck.{FieldCheck}
 use Rattle.joint.specs.declared.FieldCheck.the-variants.{AllInRange, Outside}
 use Rattle.sharing.specs.Groups.{total}
 use Rattle.sharing.specs.Sharing.{newtonMetres}
-use Rattle.allocation.specs.Allocation.{eightPlaces}
+use Rattle.joint.specs.Places.{eightPlaces}
 use Rattle.strength.specs.Bolt.{boltStrengths}
 use Rattle.strength.specs.Thickness.{bothTooThick}
+use Rattle.strength.specs.declared.BoltStrengths.{BoltStrengths}
 use Rattle.spacing.specs.Spacing.{spacingOf}
 use Rattle.governing.specs.Governing.{forceOf}
 use Rattle.governing.specs.Cap.{overCompressed, newtonsOf}
@@ -41,36 +41,36 @@ refusedBy number field = record {
 }
 
 -- 'Tried in this order', after 10: each number with the test that lets a face pass.
-unfoldable pub refusals : Column → Bolts → Face → List Check
-refusals column bolts face =
+unfoldable pub refusals : Column → BoltStrengths → Face → List Check
+refusals column bolt face =
     (11, leversFall face)
     ∷ (12, rowsInPlace face)
     ∷ (13, not (tooTight (face .extended) (spacingOf column face)))
-    ∷ (14, not (bothTooThick column (face .plate) bolts (steelOf column face) (boltStrengths bolts)))
+    ∷ (14, not (bothTooThick column (face .plate) (steelOf column face) bolt))
     ∷ (15, not (overCompressed (face .loads) (forceOf (governingOf column face))))
     ∷ []
 
 -- The whole result of a face that isn't refused.
-unfoldable pub resultOf : Column → Bolts → Face → FaceResult
-resultOf column bolts face =
-    let forces = forcesOf column bolts face in
+unfoldable pub resultOf : Column → BoltStrengths → Face → FaceResult
+resultOf column bolt face =
+    let forces = forcesOf column bolt face in
     record {
       forces = eightPlaces forces;
       sum = total forces;
       «newton_metres» = newtonMetres (momentOf face forces);
       cap = newtonsOf (capOf column face);
       check = governingOf column face;
-      verdicts = verdictsOf column bolts face forces;
+      verdicts = verdictsOf column bolt face forces;
     }
 
 abbrev pub completed : FaceResult → Outcome
 completed result = record { refusal = record { number = 0; field = 0 }; result = result }
 
 -- A face whose fields are in range: the first refusal whose test fails, and else the result.
-unfoldable pub workedFace : Column → Bolts → Face → Outcome
+unfoldable pub workedFace : Column → BoltStrengths → Face → Outcome
 unfolding refusals resultOf
-workedFace column bolts face =
-    firstFailing (completed (resultOf column bolts face)) (λ number. refusedBy number 0) (refusals column bolts face)
+workedFace column bolt face =
+    firstFailing (completed (resultOf column bolt face)) (λ number. refusedBy number 0) (refusals column bolt face)
 
 -- '10 a field out of range, with the first such field's number'; then the face.
 abbrev pub workedBy : FieldCheck → Outcome → Outcome
@@ -79,4 +79,6 @@ workedBy (Outside field) outcome = refusedBy 10 field
 
 unfoldable pub worked : Joint → Outcome
 unfolding workedFace
-worked joint = workedBy (fieldCheck joint) (workedFace (joint .column) (joint .bolts) (joint .face))
+worked joint =
+    workedBy (fieldCheck (joint .column) (joint .bolts) (joint .face))
+    (workedFace (joint .column) (boltStrengths (joint .bolts)) (joint .face))

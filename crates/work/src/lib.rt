@@ -4,21 +4,19 @@ ghost use mathlib.Core.Path.{_≡_};
 ghost use Prim.Native.Nat.{ℕ, _≤_};
 ghost use lib.ListN.{length, getD, take, drop};
 ghost use Rattle.arithmetic.specs.Checks.{firstFailing};
-ghost use Rattle.joint.specs.InRange.{InRange};
+ghost use Rattle.joint.specs.Places.{eightPlaces};
 ghost use Rattle.compression.specs.Compression.{PartsInRange, mostBearing};
 ghost use Rattle.governing.specs.Governing.{forceOf};
-ghost use Rattle.sharing.specs.Groups.{withCap};
+ghost use Rattle.sharing.specs.Groups.{withCap, mostLimit};
 ghost use Rattle.sharing.specs.Sharing.{shared};
-ghost use Rattle.allocation.specs.Allocation.{eightPlaces};
 ghost use Rattle.work.specs.OneFace.{rowsOf, limitOf, steelOf, governingOf, forcesOf, verdictsOf};
 ghost use Rattle.work.specs.Work.{refusedBy, refusals, resultOf, completed, workedFace, worked};
-ghost use Rattle.work.specs.Demand.{Demand3};
-ghost use Rattle.work.specs.Steps.{measuresOf, Measured, Capped, Tallied};
+ghost use Rattle.work.specs.Demand.{Demand3Of};
+ghost use Rattle.work.specs.Steps.{measuresOf, FaceAsked, AdmitAsked, Measured, Capped, Tallied};
 ghost use Rattle.work.specs.declared.Admission.the-variants.{Admitted, Refused};
 use arithmetic::least;
 use governing::Cap;
 use governing::CompressionCheck;
-use joint::Bolts;
 use joint::Column;
 use joint::Face;
 use joint::FieldCheck;
@@ -32,11 +30,10 @@ use strength::BoltStrengths;
 use strength::SteelStrengths;
 use verdicts::Tally;
 
-// What is measured of a face before it is admitted: distances about its bolts, and strengths.
+// What is measured of a face before it is admitted: distances about its bolts, and steel strengths.
 pub struct Measures {
     pub spacing: Spacing,
     pub steel: SteelStrengths,
-    pub bolt: BoltStrengths,
 }
 
 // Whether a face passes refusals 11 to 14, or the number of the first that it doesn't.
@@ -49,13 +46,16 @@ pub enum Admission {
 // demand 3, in specs/Demand.antt.
 pub fn work(joint: Joint) -> Outcome
     ensures equals { λ r. ⌜ r ≡ worked joint ⌝ }
-    ensures demand { λ r. ⌜ (r .refusal .number ≡ 0 → Demand3 (joint .column) (joint .bolts) (joint .face) (r .result .forces) (r .result .verdicts .bending)) ⌝ }
+    ensures demand { λ r. ⌜ (r .refusal .number ≡ 0 → Demand3Of joint r) ⌝ }
 {
     let face = joint.face;
-    let found = joint::check_fields(joint);
+    let found = joint::check_fields(joint.column, joint.bolts, face);
     match found {
         FieldCheck::Outside(field) => refused(10, field),
-        FieldCheck::AllInRange => work_face(joint.column, joint.bolts, face),
+        FieldCheck::AllInRange => {
+            let bolt = strength::bolt_strengths(joint.bolts);
+            work_face(joint.column, bolt, face)
+        }
     }
 }
 
@@ -81,33 +81,31 @@ fn refused(number: u32, field: u32) -> Outcome
 }
 
 // A face whose fields are in range. (A list of eight levers has eight: said for the caller's sake.)
-fn work_face(column: Column, bolts: Bolts, face: Face) -> Outcome
-    requires { ⌜ InRange (record { column = column; bolts = bolts; face = face }) ⌝ }
-    ensures { λ r. ⌜ (r ≡ workedFace column bolts face) × (length (face .levers) ≡ 8) ⌝ }
+fn work_face(column: Column, bolt: BoltStrengths, face: Face) -> Outcome
+    requires { ⌜ FaceAsked column bolt face ⌝ }
+    ensures { λ r. ⌜ (r ≡ workedFace column bolt face) × (length (face .levers) ≡ 8) ⌝ }
 {
-    let measures = measures_of(column, bolts, face);
-    let admission = admit(column, bolts, face, measures);
+    let measures = measures_of(column, face);
+    let admission = admit(column, bolt, face, measures);
     match admission {
         Admission::Refused(number) => refused(number, 0),
-        Admission::Admitted => work_admitted(column, bolts, face, measures),
+        Admission::Admitted => work_admitted(column, bolt, face, measures),
     }
 }
 
-fn measures_of(column: Column, bolts: Bolts, face: Face) -> Measures
-    ensures { λ r. ⌜ r ≡ measuresOf column bolts face ⌝ }
+fn measures_of(column: Column, face: Face) -> Measures
+    ensures { λ r. ⌜ r ≡ measuresOf column face ⌝ }
 {
     Measures {
         spacing: spacing::spacing_of(column, face),
         steel: strength::steel_strengths(column, face.beam, face.plate),
-        bolt: strength::bolt_strengths(bolts),
     }
 }
 
 // The first four refusals after 10.
-fn admit(column: Column, bolts: Bolts, face: Face, measures: Measures) -> Admission
-    requires { ⌜ InRange (record { column = column; bolts = bolts; face = face }) ⌝ }
-    requires { ⌜ measures ≡ measuresOf column bolts face ⌝ }
-    ensures { λ r. ⌜ (r ≡ firstFailing Admitted Refused (take 4 (refusals column bolts face))) × (length (face .levers) ≡ 8) ⌝ }
+fn admit(column: Column, bolt: BoltStrengths, face: Face, measures: Measures) -> Admission
+    requires { ⌜ AdmitAsked column bolt face measures ⌝ }
+    ensures { λ r. ⌜ (r ≡ firstFailing Admitted Refused (take 4 (refusals column bolt face))) × (length (face .levers) ≡ 8) ⌝ }
 {
     let levers = face.levers;
     if !refusals::levers_fall(face.rows as usize, levers) {
@@ -119,16 +117,16 @@ fn admit(column: Column, bolts: Bolts, face: Face, measures: Measures) -> Admiss
     if refusals::too_tight(face.extended, measures.spacing) {
         return Admission::Refused(13);
     }
-    if strength::both_too_thick(column, face.plate, bolts, measures.steel, measures.bolt) {
+    if strength::both_too_thick(column, face.plate, measures.steel, bolt) {
         return Admission::Refused(14);
     }
     Admission::Admitted
 }
 
 // A face that the first four let pass: the last is 15, where N leaves no cap.
-fn work_admitted(column: Column, bolts: Bolts, face: Face, measures: Measures) -> Outcome
-    requires { ⌜ Measured column bolts face measures ⌝ }
-    ensures { λ r. ⌜ r ≡ firstFailing (completed (resultOf column bolts face)) (λ number. refusedBy number 0) (drop 4 (refusals column bolts face)) ⌝ }
+fn work_admitted(column: Column, bolt: BoltStrengths, face: Face, measures: Measures) -> Outcome
+    requires { ⌜ Measured column bolt face measures ⌝ }
+    ensures { λ r. ⌜ r ≡ firstFailing (completed (resultOf column bolt face)) (λ number. refusedBy number 0) (drop 4 (refusals column bolt face)) ⌝ }
 {
     let check = governing_of(column, face, measures.steel);
     let capped = governing::tension_cap(governing::force_of(check), face.loads);
@@ -140,7 +138,7 @@ fn work_admitted(column: Column, bolts: Bolts, face: Face, measures: Measures) -
             number: 0,
             field: 0,
         },
-        result: result_of(column, bolts, face, measures, check, cap),
+        result: result_of(column, bolt, face, measures, check, cap),
     }
 }
 
@@ -148,30 +146,24 @@ fn governing_of(column: Column, face: Face, steel: SteelStrengths) -> Compressio
     requires { ⌜ PartsInRange steel column (face .beam) (face .plate) (face .welds) × (steel ≡ steelOf column face) ⌝ }
     ensures { λ r. ⌜ (r ≡ governingOf column face) × (forceOf r ≤ mostBearing) ⌝ }
 {
-    let resistances = compression::resistances_of(
-        steel,
-        column,
-        face.beam,
-        face.plate,
-        face.welds,
-    );
+    let resistances = compression::resistances_of(steel, column, face.beam, face.plate, face.welds);
     governing::governing_check(resistances)
 }
 
 // The whole result of a face that isn't refused.
 fn result_of(
     column: Column,
-    bolts: Bolts,
+    bolt: BoltStrengths,
     face: Face,
     measures: Measures,
     check: CompressionCheck,
     cap: u64,
 ) -> FaceResult
-    requires { ⌜ Capped column bolts face measures check cap ⌝ }
-    ensures { λ r. ⌜ r ≡ resultOf column bolts face ⌝ }
+    requires { ⌜ Capped column bolt face measures check cap ⌝ }
+    ensures { λ r. ⌜ r ≡ resultOf column bolt face ⌝ }
 {
     let levers = face.levers;
-    let forces = row_forces(column, bolts, face, measures, cap);
+    let forces = row_forces(column, bolt, face, measures, cap);
     let tally = verdicts::tally_forces(face.rows as usize, levers, forces);
     FaceResult {
         forces,
@@ -179,28 +171,31 @@ fn result_of(
         newton_metres: tally.moment / 10000,
         cap,
         check,
-        verdicts: judge(column, bolts, face, measures, forces, tally),
+        verdicts: judge(column, bolt, face, measures, forces, tally),
     }
 }
 
 // The forces of a face's rows, under the limits of all groups and the cap on them together.
-fn row_forces(column: Column, bolts: Bolts, face: Face, measures: Measures, cap: u64) -> [u64; 8]
-    requires { ⌜ Measured column bolts face measures ⌝ }
-    ensures { λ r. ⌜ r ≡ eightPlaces (shared (withCap (limitOf column bolts face) (rowsOf face) cap) (rowsOf face)) ⌝ }
-    ensures { λ r. ⌜ ((k : ℕ) → getD r k 0 ≤ 4000000000) ⌝ }
+fn row_forces(
+    column: Column,
+    bolt: BoltStrengths,
+    face: Face,
+    measures: Measures,
+    cap: u64,
+) -> [u64; 8]
+    requires { ⌜ Measured column bolt face measures ⌝ }
+    ensures { λ r. ⌜ r ≡ eightPlaces (shared (withCap (limitOf column bolt face) (rowsOf face) cap) (rowsOf face)) ⌝ }
+    ensures { λ r. ⌜ ((k : ℕ) → getD r k 0 ≤ mostLimit) ⌝ }
 {
     let rows = face.rows as usize;
     let whole = rows - 1;
     let mut limits = [0u64; 36];
     tension::group_limits(
-        Joint {
-            column,
-            bolts,
-            face,
-        },
+        column,
+        face,
         measures.spacing,
         measures.steel,
-        measures.bolt.pair,
+        bolt.pair_tension,
         &mut limits,
     );
     limits[whole] = least(limits[whole], cap);
@@ -210,15 +205,14 @@ fn row_forces(column: Column, bolts: Bolts, face: Face, measures: Measures, cap:
 // The four verdicts on a face's forces.
 fn judge(
     column: Column,
-    bolts: Bolts,
+    bolt: BoltStrengths,
     face: Face,
     measures: Measures,
     forces: [u64; 8],
     tally: Tally,
 ) -> Verdicts
-    requires { ⌜ Measured column bolts face measures ⌝ }
-    requires { ⌜ Tallied column bolts face forces tally ⌝ }
-    ensures { λ r. ⌜ r ≡ verdictsOf column bolts face (forcesOf column bolts face) ⌝ }
+    requires { ⌜ Tallied column bolt face measures forces tally ⌝ }
+    ensures { λ r. ⌜ r ≡ verdictsOf column bolt face (forcesOf column bolt face) ⌝ }
 {
     let beam = face.beam;
     let plate = face.plate;
@@ -226,15 +220,7 @@ fn judge(
     let idle = ((face.rows + face.shear_rows) as u64) - tally.pulling;
     Verdicts {
         bending: verdicts::carries_moment(face.loads, beam, tally.moment),
-        bolts: verdicts::bolts_carry(
-            bolts,
-            measures.bolt,
-            column,
-            plate,
-            tally.pulling,
-            idle,
-            face.loads.shear,
-        ),
+        bolts: verdicts::bolts_carry(bolt, column, plate, tally.pulling, idle, face.loads.shear),
         flange_weld: verdicts::flange_weld(
             face,
             measures.steel.beam,

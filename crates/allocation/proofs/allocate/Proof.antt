@@ -1,13 +1,52 @@
 -- `allocate` meets its contract: each return is one case of the definition (the laws of `Answers`), and of whatever it
 -- answers, no refusal means the best forces. Assumes nothing.
-use mathlib.Core.Path.{sym, _∙_}
+use mathlib.Core.Path.{_≡_, sym, _∙_}
+use mathlib.Core.Bool.{true, false}
+use Prim.Native.Nat.{_≤_}
 use native.Mathlib.Omega.{arith}
 use borrow.Author.Needs.{needs}
+use borrow.Author.Tests.{not-true, not-false}
+use lib.ListN.{length, take}
 use lib.Seq.{length-take-le}
-use Rattle.sharing.specs.Groups.{groupCount}
-use Rattle.allocation.proofs.Answers.{at-most-eight, product-le, refused-by-3, refused-by-7, refused-by-8, shareable, taken, no-refusal-is-best}
+use Rattle.arithmetic.specs.Range.{within}
+use Rattle.joint.specs.Ranges.{rowCounts}
+use Rattle.sharing.specs.Groups.{groupCount, mostLimit}
+use Rattle.allocation.specs.Allocation.{noneAbove, allocated}
+use Rattle.allocation.proofs.Answers.{at-most-eight, product-le}
+use Rattle.allocation.proofs.Answers.{refused-by-3, refused-by-7, refused-by-8, shareable, taken, no-refusal-is-best}
 use Rattle.allocation.proofs.allocate.Statement.{statement}
 use Rattle.allocation.proofs.allocate.Tie as tie
+
+-- ---- what each test leaves, and the places before it
+
+abbrev counted : tie.Else1 → tie.Start
+counted c = c .before .before .before
+
+rows : (c : tie.Else1) → within rowCounts (counted c .args .count) ≡ true
+rows c = sym (c .before .is-row-count .ensures) ∙ not-false _ (c .if1 .left)
+
+few : (c : tie.Else1) → counted c .args .count ≤ 8
+few c = at-most-eight _ (rows c)
+
+enough : (c : tie.Else2) → groupCount (counted (c .before) .args .count) ≤ length (counted (c .before) .args .limits .now)
+unfolding groupCount
+enough c = c .if2 .left
+
+abbrev looked : tie.After-none-above → tie.Else2
+looked c = c .before .before
+
+abbrev start : tie.After-none-above → tie.Start
+start c = counted (looked c .before)
+
+none-too-large : (c : tie.After-none-above)
+    → c .none-above .result ≡ noneAbove mostLimit (take (groupCount (start c .args .count)) (start c .args .limits .now))
+unfolding groupCount
+none-too-large c = c .none-above .ensures
+
+small : (c : tie.Else3) → noneAbove mostLimit (take (groupCount (start (c .before) .args .count)) (start (c .before) .args .limits .now)) ≡ true
+small c = sym (none-too-large (c .before)) ∙ not-false _ (c .if3 .left)
+
+-- ---- the needs
 
 is-row-count-requires : tie.Need-is-row-count-requires
 is-row-count-requires c κs = search needs
@@ -17,17 +56,15 @@ refused-requires c κs = search needs
 
 returns : tie.Need-returns
 returns c =
-    let e = c .refused .ensures ∙ refused-by-3 _ _ _ (c .before .before .is-row-count .ensures) (c .before .if1 .taken) in
-    (e, no-refusal-is-best _ _ _ e)
+    let counting = c .before .before in
+    let e = refused-by-3 _ _ (sym (counting .is-row-count .ensures) ∙ not-true _ (c .before .if1 .taken)) ∙ sym (c .refused .ensures) in
+    (sym e, no-refusal-is-best _ _ _ e)
 
 add-groups : tie.Need-add-groups
-add-groups c =
-    omega (arith, at-most-eight (c .before .before .before .args .count) (c .before .is-row-count .result) (c .before .is-row-count .ensures) (c .if1 .left))
+add-groups c = omega (arith, few c)
 
 mul-groups : tie.Need-mul-groups
-mul-groups c =
-    let few = at-most-eight (c .before .before .before .args .count) (c .before .is-row-count .result) (c .before .is-row-count .ensures) (c .if1 .left) in
-    omega (arith, product-le (c .before .before .before .args .count) few)
+mul-groups c = omega (arith, product-le (counted c .args .count) (few c))
 
 refused-requires-2 : tie.Need-refused-requires-2
 refused-requires-2 c κs = search needs
@@ -35,9 +72,8 @@ refused-requires-2 c κs = search needs
 returns-2 : tie.Need-returns-2
 unfolding groupCount
 returns-2 c =
-    let rows = c .before .before .before .is-row-count .ensures in
-    let e = c .refused2 .ensures ∙ refused-by-7 _ _ _ rows (c .before .before .if1 .left) (c .before .if2 .taken) in
-    (e, no-refusal-is-best _ _ _ e)
+    let e = refused-by-7 _ _ (rows (c .before .before)) (c .before .if2 .taken) ∙ sym (c .refused2 .ensures) in
+    (sym e, no-refusal-is-best _ _ _ e)
 
 slice-aggregate-none-above : tie.Need-slice-aggregate-none-above
 slice-aggregate-none-above c = sym (length-take-le _ _ (c .before .if2 .left))
@@ -49,29 +85,22 @@ refused-requires-3 : tie.Need-refused-requires-3
 refused-requires-3 c κs = search needs
 
 returns-3 : tie.Need-returns-3
-unfolding groupCount
 returns-3 c =
-    let rows = c .before .before .before .before .before .before .is-row-count .ensures in
-    let e = c .refused3 .ensures
-    ∙ refused-by-8 _ _ _ rows (c .before .before .before .before .before .if1 .left) (c .before .before .before .before .if2 .left) _
-    (c .before .before .none-above .ensures) (c .before .if3 .taken) in
-    (e, no-refusal-is-best _ _ _ e)
+    let tested = c .before .before in
+    let large = sym (none-too-large tested) ∙ not-true _ (c .before .if3 .taken) in
+    let e = refused-by-8 _ _ (rows (looked tested .before)) (enough (looked tested)) large ∙ sym (c .refused3 .ensures) in
+    (sym e, no-refusal-is-best _ _ _ e)
 
 share-requires : tie.Need-share-requires
-unfolding groupCount
-share-requires c κs =
-    let rows = c .before .before .before .before .before .is-row-count .ensures in
-    shareable _ _ _ rows (c .before .before .before .before .if1 .left) (c .before .before .before .if2 .left) _
-    (c .before .none-above .ensures) (c .if3 .left)
+share-requires c κs = shareable _ _ (rows (looked (c .before) .before)) (enough (looked (c .before))) (small c)
 
 returns-4 : tie.Need-returns-4
-unfolding groupCount
 returns-4 c =
-    let rows = c .before .before .before .before .before .before .is-row-count .ensures in
-    let e = (λ i. record { refusal = 0; forces = c .share .ensures i })
-    ∙ taken _ _ _ rows (c .before .before .before .before .before .if1 .left) (c .before .before .before .before .if2 .left) _
-    (c .before .before .none-above .ensures) (c .before .if3 .left) in
-    (e, no-refusal-is-best _ _ _ e)
+    let tested = c .before .before in
+    let e : allocated (start tested .args .count) (start tested .args .limits .now) ≡ record { refusal = 0; forces = c .share .result }
+    = taken _ _ (rows (looked tested .before)) (enough (looked tested)) (small (c .before))
+    ∙ (λ i. record { refusal = 0; forces = sym (c .share .ensures) i }) in
+    (sym e, no-refusal-is-best _ _ _ e)
 
 pub allocate-spec : {M : Type 1} → statement M
 allocate-spec =

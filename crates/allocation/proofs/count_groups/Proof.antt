@@ -28,17 +28,17 @@ sub-lowered c = search needs
 add-lowered : tie.Need-add-lowered Inv-loop μ-loop
 add-lowered c =
     let s = c .before in
-    omega (arith, place-inside _ _ (s .pre .0) _ (s .args .count - 1) _ (s .pre .1 .1) (omega arith) (omega arith))
+    omega (arith, place-inside _ _ (s .pre .limits-shareable) _ (s .args .count - 1) _ (s .pre .place) (omega arith) (omega arith))
 
 mul-lowered : tie.Need-mul-lowered Inv-loop μ-loop
 mul-lowered c =
     let s = c .before in
-    omega (arith, place-inside _ _ (s .pre .0) _ (s .args .count - 1) _ (s .pre .1 .1) (omega arith) (omega arith))
+    omega (arith, place-inside _ _ (s .pre .limits-shareable) _ (s .args .count - 1) _ (s .pre .place) (omega arith) (omega arith))
 
 shared-slice-read-lowered : tie.Need-shared-slice-read-lowered Inv-loop μ-loop
 shared-slice-read-lowered c =
     let s = c .before .before in
-    omega (arith, place-inside _ _ (s .pre .0) _ (s .args .count - 1) _ (s .pre .1 .1) (omega arith) (omega arith))
+    omega (arith, place-inside _ _ (s .pre .limits-shareable) _ (s .args .count - 1) _ (s .pre .place) (omega arith) (omega arith))
 
 loop-holds : tie.Need-loop-holds Inv-loop μ-loop
 loop-holds c =
@@ -46,7 +46,7 @@ loop-holds c =
     let whole : suc (s .args .count - 1) ≡ s .args .count = omega arith in (
       omega arith,
       omega arith,
-      lowest _ _ _ _ _ (s .pre .1 .1) whole,
+      lowest _ _ _ _ _ (s .pre .place) whole,
       rw whole (none-counted _ _ _ _ _),
     )
 
@@ -60,7 +60,7 @@ add-least : tie.Need-add-least Inv-loop μ-loop
 add-least c =
     let s = c .before .before .before .before in
     let l = c .before .loop in
-    omega (arith, lowered-le-most _ _ (s .pre .0) _ _ (l .inv .0) (l .inv .1))
+    omega (arith, lowered-le-most _ _ (s .pre .limits-shareable) _ _ (l .inv .0) (l .inv .1))
 
 least-requires : tie.Need-least-requires Inv-loop μ-loop
 least-requires c κs = search needs
@@ -86,19 +86,19 @@ add-least-2 : tie.Need-add-least-2 Inv-loop μ-loop
 add-least-2 c =
     let s = c .before .before .before .before .before .before in
     let l = c .before .before .before .loop in
-    omega (arith, place-inside _ _ (s .pre .0) _ (l .last - 1) _ (s .pre .1 .1) (omega arith) (omega arith))
+    omega (arith, place-inside _ _ (s .pre .limits-shareable) _ (l .last - 1) _ (s .pre .place) (omega arith) (omega arith))
 
 mul-least-2 : tie.Need-mul-least-2 Inv-loop μ-loop
 mul-least-2 c =
     let s = c .before .before .before .before .before .before in
     let l = c .before .before .before .loop in
-    omega (arith, place-inside _ _ (s .pre .0) _ (l .last - 1) _ (s .pre .1 .1) (omega arith) (omega arith))
+    omega (arith, place-inside _ _ (s .pre .limits-shareable) _ (l .last - 1) _ (s .pre .place) (omega arith) (omega arith))
 
 shared-slice-read-least : tie.Need-shared-slice-read-least Inv-loop μ-loop
 shared-slice-read-least c =
     let s = c .before .before .before .before .before .before .before in
     let l = c .before .before .before .before .loop in
-    omega (arith, place-inside _ _ (s .pre .0) _ (l .last - 1) _ (s .pre .1 .1) (omega arith) (omega arith))
+    omega (arith, place-inside _ _ (s .pre .limits-shareable) _ (l .last - 1) _ (s .pre .place) (omega arith) (omega arith))
 
 least-requires-2 : tie.Need-least-requires-2 Inv-loop μ-loop
 least-requires-2 c κs = search needs
@@ -114,7 +114,7 @@ loop-again c =
       omega arith,
       omega arith,
       c .least2 .ensures
-          ∙ lower _ _ _ _ _ _ (s .pre .1 .1) (omega arith)
+          ∙ lower _ _ _ _ _ _ (s .pre .place) (omega arith)
           (l .inv .2 ∙ ap (loweredLimit (listed (s .args .count) (s .args .limits .now)) (s .args .count) (s .args .row)) (sym next)),
       one-more _ _ _ _ _ _ _ _ _ _ (omega (arith, l .inv .3 .size)) (sym next) (l .inv .2) (c .before .before .before .least .ensures) (l .inv .3),
     )

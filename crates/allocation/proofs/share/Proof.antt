@@ -20,10 +20,14 @@ loop-holds c = start _ _ (c .before .pre)
 count-groups-requires : tie.Need-count-groups-requires Inv-loop μ-loop
 count-groups-requires c κs =
     let s = c .before .before .before .before in
-    let l = c .before .before .loop in (
-      s .pre,
-      (c .before .loop-test .taken, l .inv .place, omega (arith, l .inv .sum, sum-le-most _ _ (s .pre) (l .row) (l .inv .rows)), omega (arith, l .inv .size, s .pre .rows)),
-    )
+    let l = c .before .before .loop in
+    record {
+      limits-shareable = s .pre;
+      inside = c .before .loop-test .taken;
+      place = l .inv .place;
+      small = omega (arith, l .inv .sum, sum-le-most _ _ (s .pre) (l .row) (l .inv .rows));
+      places = omega (arith, l .inv .size, s .pre .rows);
+    }
 
 mul-down : tie.Need-mul-down Inv-loop μ-loop
 mul-down c = omega arith

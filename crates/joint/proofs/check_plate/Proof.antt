@@ -3,7 +3,6 @@
 use borrow.Author.Needs.{needs}
 use mathlib.Core.List.{[]}
 use Rattle.joint.proofs.Fields.{nothing-asked}
-use lib.Dec.{eqb}
 use Rattle.arithmetic.proofs.Bounds.{within-either}
 use Rattle.joint.proofs.check_plate.Statement.{statement}
 use Rattle.joint.proofs.check_plate.Tie as tie
@@ -37,9 +36,7 @@ returns c =
     let gauge = lowest .before in
     let thickness = gauge .before in
     let width = thickness .before in
-    let args = width .before .args in
-    let ends = within-either (eqb (args .extended) 0) 0 0 150 2000 (args .layout .edge) in
-    rw (highest .chosen2 .ensures, lowest .chosen .ensures, ends) at
+    rw (highest .chosen2 .ensures, lowest .chosen .ensures, within-either) at
     (c .ranged5 .ensures _
     (edge .ranged4 .ensures _
     (gauge .ranged3 .ensures _

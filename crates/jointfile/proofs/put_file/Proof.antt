@@ -1,8 +1,8 @@
 -- `put_file` meets its contract: the two parts that are put one after the other are the file. Assumes nothing.
-use Prim.Native.Nat.{_+_, _≤_}
+use Prim.Native.Nat.{ℕ, _+_, _≤_}
 use mathlib.Core.Path.{_≡_, sym, _∙_}
 use mathlib.Core.Bool.{true}
-use mathlib.Core.List.{_++_}
+use mathlib.Core.List.{List, _++_}
 use native.Mathlib.Nat.{zero-add}
 use borrow.Author.Tests.{leb-true}
 use lib.Dec.{leb}
@@ -15,36 +15,54 @@ use borrow.Author.Needs.{needs}
 use Rattle.jointfile.proofs.put_file.Statement.{statement}
 use Rattle.jointfile.proofs.put_file.Tie as tie
 
+-- ---- the places: the call's start, the test, and the two parts put
+
+abbrev start : tie.After-slice-known → tie.Start
+start c = c .before .before .before
+
+abbrev tested : tie.After-put-numbers → tie.Then1
+tested c = c .before .before
+
+abbrev start-then : tie.Then1 → tie.Start
+start-then c = start (c .before .before)
+
+abbrev first : tie.After-put-numbers-arg2 → tie.After-put-numbers
+first c = c .before .before .before
+
+abbrev second : tie.After-slice-known3 → tie.After-put-numbers2
+second c = c .before .before
+
+-- the file's bytes
+abbrev bytes : tie.Then1 → List ℕ
+bytes c = storedAll (now (start-then c .args .fields)) ++ storedAll (now (start-then c .args .levers))
+
+-- there is room for them, as was found
+room : (c : tie.Then1) → leb (length (bytes c)) (length (now (start-then c .args .buffer))) ≡ true
+room c = sym (c .before .has-room .ensures) ∙ c .if1 .taken
+
+fits : (c : tie.Then1) → 0 + length (bytes c) ≤ length (now (start-then c .args .buffer))
+fits c = rw zero-add (leb-true _ _ (room c))
+
+-- ---- the needs
+
 has-room-requires : tie.Need-has-room-requires
 has-room-requires c κs = search needs
 
--- there is room for the two parts, as was found
-room : (c : tie.Then1) → let args = c .before .before .before .before .before .args in
-    leb (length (storedAll (now (args .fields)) ++ storedAll (now (args .levers)))) (length (now (args .buffer))) ≡ true
-room c = sym (c .before .has-room .ensures) ∙ c .if1 .taken
-
-fits : (c : tie.Then1) → let args = c .before .before .before .before .before .args in
-    0 + length (storedAll (now (args .fields)) ++ storedAll (now (args .levers))) ≤ length (now (args .buffer))
-fits c = rw zero-add (leb-true _ _ (room c))
-
 put-numbers-requires : tie.Need-put-numbers-requires
 put-numbers-requires c κs =
-    let args = c .before .before .before .before .before .before .args in
+    let args = start-then (c .before) .args in
     room-first (storedAll (now (args .fields))) (storedAll (now (args .levers))) 0 _ (fits (c .before))
 
 put-numbers-requires-2 : tie.Need-put-numbers-requires-2
-put-numbers-requires-2 c κs =
-    let first = c .before .before .before in
-    room-after _ (first .put-numbers .ensures) (fits (first .before .before))
+put-numbers-requires-2 c κs = room-after _ (first c .put-numbers .ensures) (fits (tested (first c)))
 
 same-length : tie.Need-same-length
 same-length c = search needs
 
 returns : tie.Need-returns
 returns c =
-    let second = c .before .before in
-    let first = second .before .before .before .before in
-    placed-put (put-both (first .put-numbers .ensures) (second .put-numbers2 .ensures)) (room (first .before .before))
+    let part = first (second c .before) in
+    placed-put (put-both (part .put-numbers .ensures) (second c .put-numbers2 .ensures)) (room (tested part))
 
 returns-2 : tie.Need-returns-2
 returns-2 c = placed-short _ _ (sym (c .before .has-room .ensures) ∙ c .if1 .left)

@@ -1,19 +1,61 @@
 -- `read_others` meets its contract: each return is a case of the definition, told by the two runs of numbers.
 -- Assumes nothing.
 use Prim.Native.Nat.{ℕ}
-use mathlib.Core.Path.{sym, ap, ap₂, _∙_}
+use mathlib.Core.Path.{_≡_, sym, ap, ap₂, _∙_}
 use mathlib.Core.List.{List, _∷_, append-nil}
 use native.Mathlib.Omega.{arith}
 use lib.Seq.{length-take-le}
-use lib.ListN.{replicate}
+use lib.ListN.{length, take, drop, replicate}
 use denote.Ref.{now}
 use Rattle.fields.specs.Fields.{jointOf}
-use Rattle.numbers.specs.Run.{runRefusal, RunRead}
+use Rattle.numbers.specs.Parse.{got}
+use Rattle.numbers.specs.Run.{readNumbers}
+use Rattle.numbers.specs.Answers.{runRefusal, runMeaning, endPlace}
+use Rattle.numbers.specs.declared.run.Run.{Run}
 use Rattle.jointfile.specs.File.{answer}
 use Rattle.jointfile.proofs.Answers.{levers-eight, others-refused, levers-refused, levers-got, answer-got}
 use borrow.Author.Needs.{needs}
 use Rattle.jointfile.proofs.read_others.Statement.{statement}
 use Rattle.jointfile.proofs.read_others.Tie as tie
+
+-- ---- the places: the call's start, the first run, that it was read, and the second run
+
+abbrev start : tie.After-numbers-at → tie.Start
+start c = c .before .before .before
+
+abbrev first-run : tie.After-others → tie.After-numbers-at
+first-run c = c .before .before .before
+
+abbrev first-read : tie.After-numbers-at2 → tie.After-others
+first-read c = c .before .before .before
+
+abbrev second-run : tie.After-levers2 → tie.After-numbers-at2
+second-run c = c .before
+
+-- where the call of the second run started, and the place after the first
+abbrev start-2 : tie.After-numbers-at2 → tie.Start
+start-2 c = start (first-run (first-read c))
+
+abbrev after-others : tie.After-others → ℕ
+after-others c = c .others .given .0 .0
+
+-- ---- what the runs say
+
+others-read : (c : tie.After-others) → let s = start (first-run c) in
+    got (first-run c .numbers-at .last .1 .1 .0) (drop (after-others c) (now (s .args .bytes)))
+    ≡ readNumbers 28 (drop (s .args .from) (now (s .args .bytes)))
+others-read c = ap (runMeaning _ _) (sym (c .others .given .1)) ∙ first-run c .numbers-at .ensures .means
+
+-- the places lent for the levers are as many as there are rows
+lent : (c : tie.After-numbers-at2) → length {A = ℕ} (take (start-2 c .args .rows) (replicate 8 0)) ≡ start-2 c .args .rows
+lent c = length-take-le {A = ℕ} (start-2 c .args .rows) (replicate 8 0) (start-2 c .pre .0)
+
+levers-run : (c : tie.After-numbers-at2) (run : Run) → c .numbers-at2 .result ≡ run → let s = start-2 c in
+    runMeaning (now (s .args .bytes)) (c .numbers-at2 .last .1 .1 .0) run
+    ≡ readNumbers (s .args .rows) (drop (after-others (first-read c)) (now (s .args .bytes)))
+levers-run c run e = ap (runMeaning _ _) (sym e) ∙ (rw (lent c) at (c .numbers-at2 .ensures .means))
+
+-- ---- the needs
 
 array-write-fields : tie.Need-array-write-fields
 array-write-fields c = search needs
@@ -44,10 +86,11 @@ no-joint-requires c κs = search needs
 
 returns : tie.Need-returns
 returns c =
-    let run = c .before .before .before .before .before in
-    let refused = c .before .before .enum-told .given .1 in
+    let told = c .before .before in
+    let run = told .before .before .before in
+    let refused = told .enum-told .given .1 in
     let is = c .before .run-refusal .ensures ∙ ap runRefusal refused in
-    c .no-joint .ensures ∙ rw is (ap (answer _) (sym (others-refused _ (rw refused at (run .numbers-at .ensures)))))
+    c .no-joint .ensures ∙ rw is (ap (answer _) (sym (others-refused _ _ _ ((rw refused at (run .numbers-at .ensures)) .means))))
 
 array-borrow-prefix-levers : tie.Need-array-borrow-prefix-levers
 array-borrow-prefix-levers c = search needs
@@ -70,38 +113,33 @@ run-refusal-requires-2 c κs = search needs
 no-joint-requires-2 : tie.Need-no-joint-requires-2
 no-joint-requires-2 c κs = search needs
 
--- the second run is of as many numbers as there are rows
-levers-run : (c : tie.After-numbers-at2)
-    → RunRead (now (c .before .before .before .before .before .before .before .before .before .args .bytes)) (c .before .before .before .others .given .0 .0)
-    (c .before .before .before .before .before .before .before .before .before .args .rows) (c .numbers-at2 .last .1 .1 .0) (c .numbers-at2 .result)
-levers-run c =
-    let few = c .before .before .before .before .before .before .before .before .before .pre .0 in
-    rw (length-take-le {A = ℕ} (c .before .before .before .before .before .before .before .before .before .args .rows) (replicate 8 0) few) at (c .numbers-at2 .ensures)
-
 returns-2 : tie.Need-returns-2
 returns-2 c =
-    let levers = c .before .before .before .before .before in
-    let others = levers .before .before .before .before .before .before in
-    let refused = c .before .before .enum-told2 .given .1 in
+    let told = c .before .before in
+    let run = second-run (told .before .before) in
+    let refused = told .enum-told2 .given .1 in
     let is = c .before .run-refusal2 .ensures ∙ ap runRefusal refused in
-    let read = rw (levers .before .before .before .others .given .1) at (others .numbers-at .ensures) in
-    c .no-joint2 .ensures ∙ rw is (ap (answer _) (sym (levers-refused _ read (rw refused at (levers-run levers)))))
+    let stops = levers-refused _ _ _ _ (others-read (first-read run)) _ (levers-run run _ refused) in
+    c .no-joint2 .ensures ∙ rw is (ap (answer _) (sym stops))
 
 joint-of-requires : tie.Need-joint-of-requires
 joint-of-requires c κs = search needs
 
 returns-3 : tie.Need-returns-3
 returns-3 c =
-    let levers = c .before .before .before .before .before in
-    let others = levers .before .before .before .before .before .before in
-    let rows = others .before .before .before .args .rows in
-    let few = others .before .before .before .pre .0 in
-    let run = rw (c .before .before .last .given .1) at (levers-run levers) in
-    let read = rw (levers .before .before .before .others .given .1) at (others .numbers-at .ensures) in
-    let count = levers .numbers-at2 .kept .1 .1 .0 ∙ length-take-le {A = ℕ} rows (replicate 8 0) few in
-    let padded = levers-eight rows (levers .numbers-at2 .last .1 .1 .0) count in
-    let joint = c .joint-of .ensures ∙ ap₂ (λ (xs ys : List ℕ). jointOf (rows ∷ xs) ys) (append-nil (others .numbers-at .last .1 .1 .0)) padded in
-    rw joint (sym (ap (answer _) (levers-got _ read run) ∙ answer-got _ _ _ (run .within (read .within (others .before .before .before .pre .1)))))
+    let last = c .before .before in
+    let run = second-run (last .before .before) in
+    let read = first-read run in
+    let first = first-run read in
+    let rows = start first .args .rows in
+    let others = first .numbers-at .last .1 .1 .0 in
+    let levers = run .numbers-at2 .last .1 .1 .0 in
+    let padded = levers-eight rows levers (run .numbers-at2 .kept .1 .1 .0 ∙ lent run) in
+    let joint = c .joint-of .ensures ∙ ap₂ (λ (xs ys : List ℕ). jointOf (rows ∷ xs) ys) (append-nil others) padded in
+    let both = levers-got _ rows _ _ (others-read read) _ _ (levers-run run _ (last .last .given .1)) in
+    let in-first = first .numbers-at .ensures .within (start first .pre .1) in
+    let in-second = run .numbers-at2 .ensures .within (omega (arith, ap endPlace (read .others .given .1), in-first)) in
+    rw joint (sym (ap (answer _) both ∙ answer-got _ _ _ (omega (arith, ap endPlace (last .last .given .1), in-second))))
 
 pub read-others-spec : {M : Type 1} → statement M
 read-others-spec =

@@ -30,7 +30,7 @@ returns c =
     let bytes = now (c .before .before .before .args .bytes) in
     let next = c .before .read .result .next in
     rw (take-all (length bytes - next) (drop next bytes) (omega (arith, length-drop next bytes)), c .before .read .ensures)
-    (next-left bytes (λ k. c .before .before .shared-slice-known .given k .fits))
+    (next-left bytes)
 
 pub rest-spec : {M : Type 1} → statement M
 rest-spec = tie.close (tie.spec read-requires sub-result part-result-start part-result-end returns)

@@ -11,6 +11,17 @@ use borrow.Author.Needs.{needs}
 use Rattle.jointfile.proofs.write_rows.Statement.{statement}
 use Rattle.jointfile.proofs.write_rows.Tie as tie
 
+-- ---- the places: the call's start, the question about the spare levers, and its answer
+
+abbrev start : tie.After-all-zero → tie.Start
+start c = c .before .before .before .before
+
+abbrev spare-none : tie.After-put-file-arg → tie.Then1
+spare-none c = c .before .before .before
+
+abbrev put : tie.After-slice-known2 → tie.After-put-file
+put c = c .before .before
+
 mul-all-zero : tie.Need-mul-all-zero
 mul-all-zero c = search needs
 
@@ -37,22 +48,23 @@ slice-aggregate-put-file-2 c = sym (length-take-le _ _ (omega arith))
 
 put-file-requires : tie.Need-put-file-requires
 put-file-requires c κs =
-    let s = c .before .before .before .before .before .before .before .before in
-    (omega arith, s .pre .1, omega (arith, length-take (s .args .rows) (s .args .t3)))
+    let s = start (spare-none c .before) in
+    record { fields = omega arith; rows = s .pre .1; levers = omega (arith, length-take (s .args .rows) (s .args .t3)) }
 
 same-length : tie.Need-same-length
 same-length c = search needs
 
 -- the part that was looked at is all the spare levers
-spare : (c : tie.After-all-zero) → c .all-zero .result ≡ allZero (drop (c .before .before .before .before .args .rows) (c .before .before .before .before .args .t3))
+spare : (c : tie.After-all-zero) → c .all-zero .result ≡ allZero (drop (start c .args .rows) (start c .args .t3))
 spare c =
-    let args = c .before .before .before .before .args in
-    c .all-zero .ensures ∙ ap allZero (take-all (8 - args .rows) (drop (args .rows) (args .t3)) (omega (arith, length-drop (args .rows) (args .t3))))
+    let rows = start c .args .rows in
+    let levers = start c .args .t3 in
+    c .all-zero .ensures ∙ ap allZero (take-all (8 - rows) (drop rows levers) (omega (arith, length-drop rows levers)))
 
 returns : tie.Need-returns
 returns c =
-    let tested = c .before .before .before .before .before .before in
-    c .before .before .put-file .ensures ∙ writing-file _ _ _ _ (sym (spare (tested .before)) ∙ tested .if1 .taken)
+    let none = spare-none (put c .before) in
+    put c .put-file .ensures ∙ writing-file _ _ _ _ (sym (spare (none .before)) ∙ none .if1 .taken)
 
 returns-2 : tie.Need-returns-2
 returns-2 c = writing-spare _ _ _ _ (sym (spare (c .before)) ∙ c .if1 .left)

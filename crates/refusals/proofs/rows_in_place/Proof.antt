@@ -4,44 +4,44 @@ use borrow.Author.Needs.{needs}
 use Rattle.refusals.proofs.rows_in_place.Statement.{statement}
 use Rattle.refusals.proofs.rows_in_place.Tie as tie
 
-cast-all-between : tie.Need-cast-all-between
-cast-all-between c = search needs
+cast-all-in-place : tie.Need-cast-all-in-place
+cast-all-in-place c = search needs
 
-cast-all-between-2 : tie.Need-cast-all-between-2
-cast-all-between-2 c = search needs
+cast-all-in-place-2 : tie.Need-cast-all-in-place-2
+cast-all-in-place-2 c = search needs
 
-mul-all-between : tie.Need-mul-all-between
-mul-all-between c = search needs
+mul-all-in-place : tie.Need-mul-all-in-place
+mul-all-in-place c = search needs
 
-sub-all-between : tie.Need-sub-all-between
-sub-all-between c = search needs
+sub-all-in-place : tie.Need-sub-all-in-place
+sub-all-in-place c = search needs
 
-mul-all-between-2 : tie.Need-mul-all-between-2
-mul-all-between-2 c = search needs
+mul-all-in-place-2 : tie.Need-mul-all-in-place-2
+mul-all-in-place-2 c = search needs
 
-mul-all-between-3 : tie.Need-mul-all-between-3
-mul-all-between-3 c = search needs
+mul-all-in-place-3 : tie.Need-mul-all-in-place-3
+mul-all-in-place-3 c = search needs
 
-sub-all-between-2 : tie.Need-sub-all-between-2
-sub-all-between-2 c = search needs
+sub-all-in-place-2 : tie.Need-sub-all-in-place-2
+sub-all-in-place-2 c = search needs
 
-all-between-requires : tie.Need-all-between-requires
-all-between-requires c κs = search needs
+all-in-place-requires : tie.Need-all-in-place-requires
+all-in-place-requires c κs = search needs
 
 returns : tie.Need-returns
 unfolding rowsInPlace
-returns c = c .all-between .ensures
+returns c = c .all-in-place .ensures
 
 pub rows-in-place-spec : {M : Type 1} → statement M
 rows-in-place-spec =
     tie.close
     (tie.spec
-    cast-all-between
-    cast-all-between-2
-    mul-all-between
-    sub-all-between
-    mul-all-between-2
-    mul-all-between-3
-    sub-all-between-2
-    all-between-requires
+    cast-all-in-place
+    cast-all-in-place-2
+    mul-all-in-place
+    sub-all-in-place
+    mul-all-in-place-2
+    mul-all-in-place-3
+    sub-all-in-place-2
+    all-in-place-requires
     returns)

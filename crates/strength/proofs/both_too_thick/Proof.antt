@@ -1,13 +1,12 @@
--- `strength::both_too_thick` meets its contract: the limit and the two tests are the definition's, and the fields' ranges are what they require.
+-- `strength::both_too_thick` meets its contract: the limit and the two tests are the definition's.
 -- Assumes nothing.
 use borrow.Author.Needs.{needs}
 use Rattle.strength.specs.Thickness.{bothTooThick}
-use Rattle.strength.proofs.Ranges.{diameter-range}
 use Rattle.strength.proofs.both_too_thick.Statement.{statement}
 use Rattle.strength.proofs.both_too_thick.Tie as tie
 
 thickness-limit-requires : tie.Need-thickness-limit-requires
-thickness-limit-requires c κs = (diameter-range (c .args .bolts) (c .pre .2) .high, c .pre .4 .ultimate .high)
+thickness-limit-requires c κs = search needs
 
 too-thick-requires : tie.Need-too-thick-requires
 too-thick-requires c κs = search needs

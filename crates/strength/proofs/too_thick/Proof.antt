@@ -14,7 +14,7 @@ mul-result-2 : tie.Need-mul-result-2
 mul-result-2 c = fits (exactly 361 ⊗ atMost (c .pre .0) ⊗ atMost (c .pre .0)) tt
 
 mul-result-3 : tie.Need-mul-result-3
-mul-result-3 c = fits (exactly 361 ⊗ atMost (c .pre .0) ⊗ atMost (c .pre .0) ⊗ atMost (c .pre .1)) tt
+mul-result-3 c = fits (exactly 361 ⊗ atMost (c .pre .0) ⊗ atMost (c .pre .0) ⊗ c .pre .1) tt
 
 returns : tie.Need-returns
 unfolding tooThick

@@ -5,21 +5,30 @@ use borrow.Author.Needs.{needs}
 use Rattle.stubs.proofs.bending.Statement.{statement}
 use Rattle.stubs.proofs.bending.Tie as tie
 
+-- ---- what is required at the start, from the places of the walk where products are made
+
+abbrev at-flexure : tie.After-struct-known → tie.Start
+at-flexure c = c .before
+
+abbrev at-mode2 : tie.After-struct-known3 → tie.Start
+at-mode2 c = at-flexure (c .before .before)
+
+abbrev at-mode3 : tie.After-least → tie.Start
+at-mode3 c = at-mode2 (c .before .before)
+
+-- ---- the needs
+
 mul-flexure : tie.Need-mul-flexure
-mul-flexure c = fits (c .before .pre .1 .2 ⊗ c .before .pre .0 .flexure) tt
+mul-flexure c = let p = at-flexure c .pre in fits (p .length-most ⊗ p .stub .flexure) tt
 
 div-mode1 : tie.Need-div-mode1
 div-mode1 c = search needs
 
 mul-mode2 : tie.Need-mul-mode2
-mul-mode2 c =
-    let s = c .before .before .before in
-    fits (s .pre .1 .1 ⊗ s .pre .0 .prying) tt
+mul-mode2 c = let p = at-mode2 c .pre in fits (p .rows ⊗ p .stub .prying) tt
 
 add-mode2 : tie.Need-add-mode2
-add-mode2 c =
-    let s = c .before .before .before in
-    fits (s .pre .1 .2 ⊗ s .pre .0 .flexure ⊕ s .pre .1 .1 ⊗ s .pre .0 .prying) tt
+add-mode2 c = let p = at-mode2 c .pre in fits (p .length-most ⊗ p .stub .flexure ⊕ p .rows ⊗ p .stub .prying) tt
 
 div-mode2 : tie.Need-div-mode2
 div-mode2 c = search needs
@@ -28,9 +37,7 @@ least-requires : tie.Need-least-requires
 least-requires c κs = search needs
 
 mul-least : tie.Need-mul-least
-mul-least c =
-    let s = c .before .before .before .before .before in
-    fits (s .pre .1 .1 ⊗ s .pre .1 .0) tt
+mul-least c = let p = at-mode3 c .pre in fits (p .rows ⊗ p .pair) tt
 
 least-requires-2 : tie.Need-least-requires-2
 least-requires-2 c κs = search needs

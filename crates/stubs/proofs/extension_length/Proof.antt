@@ -76,13 +76,14 @@ least-requires-6 c κs = search needs
 returns : tie.Need-returns
 unfolding extensionLength
 returns c =
+    let at-circles = c .before .before .before in
     rw (
       c .least6 .ensures,
       c .before .least5 .ensures,
       c .before .before .least4 .ensures,
-      c .before .before .before .least3 .ensures,
-      c .before .before .before .before .least2 .ensures,
-      c .before .before .before .before .before .least .ensures,
+      at-circles .least3 .ensures,
+      at-circles .before .least2 .ensures,
+      at-circles .before .before .least .ensures,
     )
 
 pub extension-length-spec : {M : Type 1} → statement M

@@ -1,9 +1,9 @@
 -- `stub_of` meets its contract: the products fit, since its parts are bounded. Assumes nothing.
-use Prim.Native.Nat.{zero-le}
 use native.Mathlib.Omega.{arith}
 use Rattle.arithmetic.specs.Range.{Within, _to_}
-use Rattle.arithmetic.proofs.Bounds.{exactly, _⊗_, fits}
+use Rattle.arithmetic.proofs.Bounds.{exactly, atMost, _⊗_, fits}
 use Rattle.stubs.specs.Worked.{stubOf}
+use Rattle.stubs.specs.InRange.{edgeDistances}
 use borrow.Author.Needs.{needs}
 use Rattle.stubs.proofs.stub_of.Statement.{statement}
 use Rattle.stubs.proofs.stub_of.Tie as tie
@@ -29,8 +29,8 @@ mul-t11 c = search needs
 mul-t12 : tie.Need-mul-t12
 mul-t12 c =
     let p = c .before .pre in
-    let edge : Within (0 to 30000) (c .least .result) = record { low = zero-le; high = omega (arith, c .least .ensures, p .edge-most .high) } in
-    fits (exactly 200 ⊗ edge ⊗ p .pair) tt
+    let effective : Within (0 to edgeDistances .high) (c .least .result) = atMost (omega (arith, c .least .ensures, p .edge-most)) in
+    fits (exactly 200 ⊗ effective ⊗ p .pair) tt
 
 add-t13 : tie.Need-add-t13
 add-t13 c = search needs

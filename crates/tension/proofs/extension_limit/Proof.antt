@@ -1,59 +1,78 @@
 -- `extension_limit` meets its contract: 0 if flush, else bending of the extension's own stub. Assumes nothing.
-use Prim.Native.Nat.{zero-le}
 use native.Mathlib.Omega.{arith}
 use borrow.Author.Tests.{eq-eqb, ne-eqb}
 use Rattle.arithmetic.specs.Range.{_to_}
-use Rattle.arithmetic.proofs.Bounds.{loosen, exactly}
+use Rattle.arithmetic.proofs.Bounds.{atMost, exactly, loosen}
+use Rattle.stubs.specs.InRange.{StubParts, groupRows}
 use Rattle.stubs.proofs.Sizes.{stub-within, extension-length-le}
-use Rattle.tension.proofs.Sizes.{sizes, edge-field-le, extension-parts}
+use Rattle.tension.proofs.Sizes.{edge-field-le, extension-parts, length-parts}
 use Rattle.tension.proofs.Worked.{extension-worked}
 use Rattle.tension.proofs.extension_limit.Statement.{statement}
 use Rattle.tension.proofs.extension_limit.Tie as tie
+
+-- ---- back to the start, from each place on the way of an extended plate
+
+abbrev from-test : tie.Else1 → tie.Start
+from-test c = c .before .before .before .before
+
+abbrev from-end : tie.After-times → tie.Start
+from-end c = from-test (c .before)
+
+abbrev from-stub : tie.After-stub-of → tie.Start
+from-stub c = from-end (c .before)
+
+abbrev from-length : tie.After-extension-length → tie.Start
+from-length c = from-stub (c .before)
+
+-- ---- the needs
 
 returns : tie.Need-returns
 returns c = simp (eq-eqb _ _ (c .if1 .taken))
 
 times-requires : tie.Need-times-requires
 times-requires c κs =
-    let s = c .before .before .before .before in
-    (record { low = zero-le; high = omega (arith, edge-field-le (s .args .joint) (s .pre .0) (s .args .spacing) (s .args .steel) (s .args .pair) (s .pre .1)) }, loosen (0 to 15000) (exactly 10) tt)
+    let a = from-test c .args in
+    (omega (arith, edge-field-le (a .face) (a .m) (a .plate-edge) (a .strength) (a .pair) (from-test c .pre)), omega arith)
+
+-- the parts of the stub, where the extension's end is worked
+parts : (c : tie.After-times)
+    → StubParts (from-end c .args .m) (c .times .result) (from-end c .args .face .plate .thickness) (from-end c .args .strength) (from-end c .args .pair)
+parts c =
+    let a = from-end c .args in
+    extension-parts (a .face) (a .m) (a .plate-edge) (a .strength) (a .pair) (from-end c .pre) (c .before .if1 .left) _ (c .times .ensures)
 
 stub-of-requires : tie.Need-stub-of-requires
-stub-of-requires c κs =
-    let s = c .before .before .before .before .before in
-    extension-parts (s .args .joint) (s .pre .0) (s .args .spacing) (s .args .steel) (s .args .pair) (s .pre .1) (c .before .if1 .left) _ (c .times .ensures)
+stub-of-requires c κs = parts c
 
 extension-length-requires : tie.Need-extension-length-requires
 extension-length-requires c κs =
-    let s = c .before .before .before .before .before .before in
-    let z = sizes (s .args .joint) (s .pre .0) (s .args .spacing) (s .args .steel) (s .args .pair) (s .pre .1) in
-    let f = s .pre .0 .in-range .face in (
-      z .extension (c .before .before .if1 .left) .high,
-      edge-field-le (s .args .joint) (s .pre .0) (s .args .spacing) (s .args .steel) (s .args .pair) (s .pre .1),
-      z .plate-edge .high,
-      f .layout .gauge .high,
-      f .plate .width .high,
-    )
+    let a = from-stub c .args in
+    let at-test = c .before .before in
+    length-parts (a .face) (a .m) (a .plate-edge) (a .strength) (a .pair) (from-stub c .pre) (at-test .if1 .left)
 
 bending-requires : tie.Need-bending-requires
 bending-requires c κs =
-    let s = c .before .before .before .before .before .before .before in
-    let z = sizes (s .args .joint) (s .pre .0) (s .args .spacing) (s .args .steel) (s .args .pair) (s .pre .1) in
-    let parts = extension-parts (s .args .joint) (s .pre .0) (s .args .spacing) (s .args .steel) (s .args .pair) (s .pre .1) (c .before .before .before .if1 .left) _ (c .before .before .times .ensures) in (
-      rw (c .before .stub-of .ensures) (stub-within _ _ _ _ _ parts),
-      (
-        z .pair-most,
-        loosen (0 to 8) (exactly 1) tt,
-        record { low = zero-le; high = omega (arith, c .extension-length .ensures, extension-length-le (s .args .spacing .extension) (s .args .joint .face .layout .edge) (s .args .spacing .«plate_edge») (s .args .joint .face .layout .gauge) (s .args .joint .face .plate .width), s .pre .0 .in-range .face .plate .width .high) },
-      ),
-    )
+    let at-stub = c .before in
+    let a = from-length c .args in
+    let f = a .face in
+    let most = extension-length-le (a .m) (f .layout .edge) (a .plate-edge) (f .layout .gauge) (f .plate .width) in
+    record {
+      stub = rw (at-stub .stub-of .ensures) (stub-within _ _ _ _ _ (parts (at-stub .before)));
+      pair = from-length c .pre .pair;
+      rows = loosen groupRows (exactly 1) tt;
+      length-most = atMost (omega (arith, c .extension-length .ensures, most, from-length c .pre .face .plate .width .high));
+    }
 
 returns-2 : tie.Need-returns-2
 returns-2 c =
-    let s = c .before .before .before .before .before .before .before .before in
-    simp (ne-eqb _ _ (c .before .before .before .before .if1 .left))
-    (extension-worked (s .args .joint) (s .args .spacing) (s .args .steel) (s .args .pair) (s .pre .1) _ _ _ _ (c .before .before .before .times .ensures)
-    (c .before .before .stub-of .ensures) (c .before .extension-length .ensures) (c .bending .ensures))
+    let at-length = c .before in
+    let at-stub = at-length .before in
+    let at-end = at-stub .before in
+    let s = from-length at-length in
+    let a = s .args in
+    simp (ne-eqb _ _ (at-end .before .if1 .left))
+    (extension-worked (a .face) (a .m) (a .plate-edge) (a .strength) (a .pair) (s .pre) _ _ _ _
+    (at-end .times .ensures) (at-stub .stub-of .ensures) (at-length .extension-length .ensures) (c .bending .ensures))
 
 pub extension-limit-spec : {M : Type 1} → statement M
 extension-limit-spec =

@@ -1,8 +1,6 @@
 -- `group_limits` meets its contract: the table agrees with the figures' limits, and those are document 01's. Assumes nothing.
 use mathlib.Core.Path.{ap, _∙_}
-use Rattle.spacing.specs.Spacing.{rise}
-use Rattle.tension.specs.Limits.{rowsIn}
-use Rattle.tension.specs.Dimensions.{limitBy}
+use Rattle.tension.specs.Dimensions.{limitsBy}
 use Rattle.tension.proofs.Sizes.{levers-of, dimensions-within}
 use Rattle.tension.proofs.Worked.{limit-worked}
 use borrow.Author.Needs.{needs}
@@ -17,23 +15,29 @@ cast-fill-limits c = search needs
 
 fill-limits-requires : tie.Need-fill-limits-requires
 fill-limits-requires c κs =
-    let s = c .before .before .before .before .before in (
-      rw (c .before .before .before .before .dimensions-of .ensures) (dimensions-within (s .args .joint) (s .pre .0)),
-      (levers-of (s .args .joint) (s .pre .0), s .pre .1 .1),
-    )
+    let at-dimensions = c .before .before .before in
+    let s = at-dimensions .before in
+    let a = s .args in
+    record {
+      dimensions = rw (at-dimensions .dimensions-of .ensures) (dimensions-within (a .column) (a .face) (s .pre .admissible) (a .pair) (s .pre .measured .pair));
+      levers = levers-of (a .column) (a .face) (s .pre .admissible);
+      size = s .pre .size;
+    }
 
 returns : tie.Need-returns
 returns c =
-    let s = c .before .before .before .before .before .before in
-    let j = s .args .joint in
+    let at-arguments = c .before .before in
+    let at-dimensions = at-arguments .before .before in
+    let a = at-dimensions .before .args in
     let filled = c .fill-limits .ensures in
     record {
       size = filled .size;
       agrees = λ row last h inside.
           filled .agrees row last h inside
-          ∙ ap (λ d. limitBy d row (rowsIn row last) (rise (j .face) row last)) (c .before .before .before .before .before .dimensions-of .ensures)
-          ∙ limit-worked (j .column) (j .bolts) (j .face) row last;
+          ∙ ap (λ d. limitsBy d (a .face .levers) row last) (at-dimensions .dimensions-of .ensures)
+          ∙ limit-worked (a .column) (a .face) (a .pair) row last;
       bounded = filled .bounded;
+      untouched = filled .untouched;
     }
 
 pub group-limits-spec : {M : Type 1} → statement M

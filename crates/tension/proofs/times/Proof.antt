@@ -1,11 +1,11 @@
 -- `times` meets its contract: the product fits. Assumes nothing.
-use Rattle.arithmetic.proofs.Bounds.{_⊗_, fits}
+use Rattle.arithmetic.proofs.Bounds.{atMost, _⊗_, fits}
 use borrow.Author.Needs.{needs}
 use Rattle.tension.proofs.times.Statement.{statement}
 use Rattle.tension.proofs.times.Tie as tie
 
 mul-result : tie.Need-mul-result
-mul-result c = fits (c .pre .0 ⊗ c .pre .1) tt
+mul-result c = fits (atMost (c .pre .0) ⊗ atMost (c .pre .1)) tt
 
 returns : tie.Need-returns
 returns c = search needs

@@ -28,8 +28,12 @@ plate-side-requires c κs = search needs
 effective-length-requires : tie.Need-effective-length-requires
 effective-length-requires c κs =
     let s = c .before .before .before in
-    let side = plate-side-le (s .args .d) (s .pre .0) (s .args .row) in
-    (omega (arith, s .pre .0 .plate-lengths .circular .high), omega (arith, c .plate-side .ensures), s .pre .1 .1 .high)
+    let side = plate-side-le (s .args .d) (s .pre .dimensions) (s .args .row) in
+    record {
+      circular-most = s .pre .dimensions .plate-lengths .circular .high;
+      side-most = omega (arith, c .plate-side .ensures);
+      rise = s .pre .rise;
+    }
 
 bending-requires : tie.Need-bending-requires
 bending-requires c κs = search needs

@@ -1,13 +1,22 @@
 -- `bearing_of` meets its contract: the lower strength on each part, then the lesser bearing. Assumes nothing.
-use Prim.Native.Nat.{zero-le}
 use native.Mathlib.Omega.{arith}
 use Rattle.arithmetic.specs.Range.{_to_}
-use Rattle.arithmetic.proofs.Bounds.{loosen}
-use Rattle.strength.proofs.Ranges.{diameter-range, steel-bearing-range}
+use Rattle.arithmetic.proofs.Bounds.{atMost, loosen}
+use Rattle.strength.specs.InRange.{mostThickness}
 use Rattle.verdicts.specs.Bolts.{bearing}
 use borrow.Author.Needs.{needs}
 use Rattle.verdicts.proofs.bearing_of.Statement.{statement}
 use Rattle.verdicts.proofs.bearing_of.Tie as tie
+
+-- ---- back to the start, from the places where the strength on each part is known
+
+abbrev from-plate : tie.After-least → tie.Start
+from-plate c = c .before .before
+
+abbrev from-column : tie.After-least2 → tie.Start
+from-column c = from-plate (c .before .before)
+
+-- ---- the needs
 
 steel-bearing-requires : tie.Need-steel-bearing-requires
 steel-bearing-requires c κs = search needs
@@ -23,21 +32,21 @@ least-requires-2 c κs = search needs
 
 pair-bearing-requires : tie.Need-pair-bearing-requires
 pair-bearing-requires c κs =
-    let s = c .before .before .before .before in
-    let steel = steel-bearing-range (s .args .plate .grade) (s .pre .2 .grade) in (
-      diameter-range (s .args .bolts) (s .pre .0),
-      loosen (0 to 500) (s .pre .2 .thickness) tt,
-      record { low = zero-le; high = omega (arith, c .before .before .least .ensures, c .before .before .before .steel-bearing .ensures, steel .high) },
-    )
+    let p = from-column c .pre in
+    record {
+      diameter = p .bolt .diameter;
+      thickness = loosen (0 to mostThickness) (p .plate .thickness) tt;
+      strength = atMost (omega (arith, c .before .before .least .ensures, p .bolt .bearing .high));
+    }
 
 pair-bearing-requires-2 : tie.Need-pair-bearing-requires-2
 pair-bearing-requires-2 c κs =
-    let s = c .before .before .before .before .before in
-    let steel = steel-bearing-range (s .args .column .grade) (s .pre .1 .grade) in (
-      diameter-range (s .args .bolts) (s .pre .0),
-      loosen (0 to 500) (s .pre .1 .flange) tt,
-      record { low = zero-le; high = omega (arith, c .before .least2 .ensures, c .before .before .steel-bearing2 .ensures, steel .high) },
-    )
+    let p = from-column (c .before) .pre in
+    record {
+      diameter = p .bolt .diameter;
+      thickness = loosen (0 to mostThickness) (p .column .flange) tt;
+      strength = atMost (omega (arith, c .before .least2 .ensures, p .bolt .bearing .high));
+    }
 
 least-requires-3 : tie.Need-least-requires-3
 least-requires-3 c κs = search needs
@@ -45,16 +54,16 @@ least-requires-3 c κs = search needs
 returns : tie.Need-returns
 unfolding bearing
 returns c =
-    let s = c .before .before .before .before .before .before .before in
+    let at-column = c .before .before .before in
+    let at-plate = at-column .before .before in
     rw (
       c .least3 .ensures,
       c .before .pair-bearing2 .ensures,
       c .before .before .pair-bearing .ensures,
-      c .before .before .before .least2 .ensures,
-      c .before .before .before .before .steel-bearing2 .ensures,
-      c .before .before .before .before .before .least .ensures,
-      c .before .before .before .before .before .before .steel-bearing .ensures,
-      s .pre .3,
+      at-column .least2 .ensures,
+      at-column .before .steel-bearing2 .ensures,
+      at-plate .least .ensures,
+      at-plate .before .steel-bearing .ensures,
     )
 
 pub bearing-of-spec : {M : Type 1} → statement M

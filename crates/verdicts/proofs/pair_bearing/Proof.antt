@@ -5,10 +5,10 @@ use Rattle.verdicts.proofs.pair_bearing.Statement.{statement}
 use Rattle.verdicts.proofs.pair_bearing.Tie as tie
 
 mul-result : tie.Need-mul-result
-mul-result c = fits (c .pre .0 ⊗ c .pre .1) tt
+mul-result c = fits (c .pre .diameter ⊗ c .pre .thickness) tt
 
 mul-result-2 : tie.Need-mul-result-2
-mul-result-2 c = fits (c .pre .0 ⊗ c .pre .1 ⊗ c .pre .2) tt
+mul-result-2 c = fits (c .pre .diameter ⊗ c .pre .thickness ⊗ c .pre .strength) tt
 
 returns : tie.Need-returns
 returns c = search needs

@@ -1,17 +1,18 @@
 -- `pairs_total` meets its contract: a pair counts at most its shear, so the products fit. Assumes nothing.
-use Prim.Native.Nat.{zero-le}
 use native.Mathlib.Omega.{arith}
 use Rattle.arithmetic.specs.Range.{Within, _to_}
-use Rattle.arithmetic.proofs.Bounds.{_⊗_, _⊕_, fits}
+use Rattle.arithmetic.proofs.Bounds.{atMost, _⊗_, _⊕_, fits}
+use Rattle.strength.specs.InRange.{mostPairShear}
 use borrow.Author.Needs.{needs}
 use Rattle.verdicts.proofs.pairs_total.Statement.{statement}
 use Rattle.verdicts.proofs.pairs_total.Tie as tie
 
-pulling : (c : tie.After-least) → Within (0 to 448800) (c .least .result)
-pulling c = record { low = zero-le; high = omega (arith, c .least .ensures, c .before .pre .2 .high) }
+-- what a pair counts in a row with a force, and in one without
+pulling : (c : tie.After-least) → Within (0 to mostPairShear) (c .least .result)
+pulling c = atMost (omega (arith, c .least .ensures, c .before .pre .shear .high))
 
-idle : (c : tie.After-least2) → Within (0 to 448800) (c .least2 .result)
-idle c = record { low = zero-le; high = omega (arith, c .least2 .ensures, c .before .before .pre .2 .high) }
+idle : (c : tie.After-least2) → Within (0 to mostPairShear) (c .least2 .result)
+idle c = atMost (omega (arith, c .least2 .ensures, c .before .before .pre .shear .high))
 
 mul-least : tie.Need-mul-least
 mul-least c = search needs
@@ -20,16 +21,18 @@ least-requires : tie.Need-least-requires
 least-requires c κs = search needs
 
 mul-result : tie.Need-mul-result
-mul-result c = fits (c .before .pre .0 ⊗ pulling c) tt
+mul-result c = fits (c .before .pre .pulling-rows ⊗ pulling c) tt
 
 least-requires-2 : tie.Need-least-requires-2
 least-requires-2 c κs = search needs
 
 mul-result-2 : tie.Need-mul-result-2
-mul-result-2 c = fits (c .before .before .pre .1 ⊗ idle c) tt
+mul-result-2 c = fits (c .before .before .pre .idle-rows ⊗ idle c) tt
 
 add-result : tie.Need-add-result
-add-result c = fits (c .before .before .pre .0 ⊗ pulling (c .before) ⊕ c .before .before .pre .1 ⊗ idle c) tt
+add-result c =
+    let p = c .before .before .pre in
+    fits (p .pulling-rows ⊗ pulling (c .before) ⊕ p .idle-rows ⊗ idle c) tt
 
 returns : tie.Need-returns
 returns c = rw (c .least2 .ensures, c .before .least .ensures)

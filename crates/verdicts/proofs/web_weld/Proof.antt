@@ -1,6 +1,7 @@
 -- `web_weld` meets its contract. Assumes nothing.
 use Rattle.arithmetic.specs.Range.{_to_}
 use Rattle.arithmetic.proofs.Bounds.{loosen}
+use Rattle.joint.specs.Ranges.{legs}
 use Rattle.strength.proofs.Ranges.{weld-range}
 use Rattle.verdicts.specs.Welds.{webWeldPasses}
 use borrow.Author.Needs.{needs}
@@ -12,8 +13,12 @@ cast-result c = search needs
 
 weld-capacity-requires : tie.Need-weld-capacity-requires
 weld-capacity-requires c κs =
-    let s = c .before in
-    (loosen (0 to 250) (s .pre .0 .welds .web) tt, s .pre .0 .welds .web-length, rw (s .pre .1) (weld-range (s .args .face .beam .grade) (s .args .face .plate .grade)))
+    let p = c .before .pre in
+    record {
+      leg-most = loosen (0 to legs .high) (p .0 .welds .web) tt;
+      length-most = p .0 .welds .web-length;
+      strength = rw (p .1) (weld-range _ _);
+    }
 
 returns : tie.Need-returns
 unfolding webWeldPasses

@@ -8,10 +8,10 @@ mul-result : tie.Need-mul-result
 mul-result c = search needs
 
 mul-result-2 : tie.Need-mul-result-2
-mul-result-2 c = fits (exactly 14 ⊗ c .pre .0 ⊗ c .pre .1) tt
+mul-result-2 c = fits (exactly 14 ⊗ c .pre .leg-most ⊗ c .pre .length-most) tt
 
 mul-result-3 : tie.Need-mul-result-3
-mul-result-3 c = fits (exactly 14 ⊗ c .pre .0 ⊗ c .pre .1 ⊗ c .pre .2) tt
+mul-result-3 c = fits (exactly 14 ⊗ c .pre .leg-most ⊗ c .pre .length-most ⊗ c .pre .strength) tt
 
 returns : tie.Need-returns
 returns c = search needs

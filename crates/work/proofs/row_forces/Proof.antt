@@ -1,25 +1,50 @@
 -- `row_forces` meets its contract: the cap is stored on group 1 to n, and the table shares alike (the laws of `Forces`). Assumes nothing.
 use mathlib.Core.Path.{ap, _∙_}
-use Rattle.allocation.specs.Allocation.{eightPlaces}
+use Prim.Native.Nat.{_≤_}
+use native.Mathlib.Omega.{arith}
+use Rattle.joint.specs.Places.{eightPlaces}
 use Rattle.work.proofs.Forces.{forces-agree, shareable, force-small}
 use borrow.Author.Needs.{needs}
 use Rattle.work.proofs.row_forces.Statement.{statement}
 use Rattle.work.proofs.row_forces.Tie as tie
 
+-- ---- the places
+
+abbrev start : tie.After-limits → tie.Start
+start c = c .before .before
+
+abbrev filled : tie.After-limits2 → tie.After-group-limits
+filled c = c .before .before
+
+abbrev from : tie.After-limits2 → tie.Start
+from c = start (filled c .before)
+
+-- ---- the needs
+
 cast-rows : tie.Need-cast-rows
 cast-rows c = search needs
 
 sub-whole : tie.Need-sub-whole
-sub-whole c = search needs
+sub-whole c = let few = c .before .pre .admissible .face .rows in omega (arith, few)
 
 group-limits-requires : tie.Need-group-limits-requires
-group-limits-requires c κs = search needs
+group-limits-requires c κs =
+    let measured = start c .pre .measured in
+    record {
+      admissible = start c .pre .admissible;
+      measured = record {
+        distances = ap (λ m. m .spacing) measured;
+        strengths = ap (λ m. m .steel) measured;
+        pair = start c .pre .bolt .pair-tension;
+      };
+      size = search needs;
+    }
 
 mul-least : tie.Need-mul-least
 mul-least c = search needs
 
 array-read-least : tie.Need-array-read-least
-array-read-least c = search needs
+array-read-least c = let few = start (c .before) .pre .admissible .face .rows in omega (arith, few)
 
 least-requires : tie.Need-least-requires
 least-requires c κs = search needs
@@ -28,25 +53,24 @@ mul-limits : tie.Need-mul-limits
 mul-limits c = search needs
 
 array-write-limits : tie.Need-array-write-limits
-array-write-limits c = search needs
+array-write-limits c = let few = start (c .before .before) .pre .admissible .face .rows in omega (arith, few)
 
 slice-aggregate-share : tie.Need-slice-aggregate-share
 slice-aggregate-share c = search needs
 
 share-requires : tie.Need-share-requires
 share-requires c κs =
-    let s = c .before .before .before .before .before in
-    let rows = s .pre .0 .in-range .face .rows in
-    shareable _ (s .args .cap) _ _ (c .before .before .group-limits .ensures) (rows .low) (rows .high) _ (c .before .least .ensures)
+    let rows = from c .pre .admissible .face .rows in
+    shareable _ (from c .args .cap) _ _ _ (filled c .group-limits .ensures) (rows .low) (rows .high) _ (c .before .least .ensures)
 
 returns : tie.Need-returns
 returns c =
-    let s = c .before .before .before .before .before .before in
-    let rows = s .pre .0 .in-range .face .rows in
-    let filled = c .before .before .before .group-limits .ensures in
+    let s = from (c .before) in
+    let rows = s .pre .admissible .face .rows in
+    let table = filled (c .before) .group-limits .ensures in
     let lower = c .before .before .least .ensures in (
-      c .share .ensures ∙ ap eightPlaces (forces-agree _ (s .args .cap) _ _ filled (rows .low) (rows .high) _ lower),
-      (λ k. rw (c .share .ensures) (force-small _ (s .args .cap) _ _ filled (rows .low) (rows .high) _ lower k)),
+      c .share .ensures ∙ ap eightPlaces (forces-agree _ (s .args .cap) _ _ _ table (rows .low) (rows .high) _ lower),
+      (λ k. rw (c .share .ensures) (force-small _ (s .args .cap) _ _ _ table (rows .low) (rows .high) _ lower k)),
     )
 
 pub row-forces-spec : {M : Type 1} → statement M

@@ -1,12 +1,30 @@
--- `work` meets its contract: a field out of range is refusal 10, and else what the levers and all after them say. Assumes nothing.
-use mathlib.Core.Path.{sym, ap, _∙_}
+-- `work` meets its contract: a field out of range is refusal 10, and else what the face comes to; and an answer that is no refusal has
+-- demand 3, as the definition has it. Assumes nothing.
+use mathlib.Core.Path.{_≡_, sym, ap, _∙_}
 use native.Mathlib.Omega.{arith}
-use Rattle.joint.proofs.InRange.{in-range}
-use Rattle.work.specs.Work.{afterFields, fromLevers, worked}
-use Rattle.work.proofs.Answers.{refusal-is}
 use borrow.Author.Needs.{needs}
+use Rattle.joint.specs.Fields.{fieldCheck}
+use Rattle.joint.proofs.InRange.{in-range}
+use Rattle.strength.specs.Bolt.{boltStrengths}
+use Rattle.strength.proofs.Ranges.{bolt-in-range}
+use Rattle.work.specs.Work.{workedFace, workedBy, worked}
+use Rattle.work.proofs.Answers.{refusal-is}
+use Rattle.work.proofs.Best.{worked-demand}
 use Rattle.work.proofs.work.Statement.{statement}
 use Rattle.work.proofs.work.Tie as tie
+
+-- ---- the places
+
+abbrev start : tie.After-check-fields → tie.Start
+start c = c .before .before
+
+abbrev outside : tie.After-known-told → tie.After-check-fields
+outside c = c .before .before .before
+
+abbrev inside : tie.After-enum-told → tie.After-check-fields
+inside c = c .before .before
+
+-- ---- the needs
 
 check-fields-requires : tie.Need-check-fields-requires
 check-fields-requires c κs = search needs
@@ -20,24 +38,38 @@ refused-requires c κs = search needs
 enum-told : tie.Need-enum-told
 enum-told c = search needs
 
-work-levers-requires : tie.Need-work-levers-requires
-work-levers-requires c κs = in-range (c .before .before .before .args .joint) (sym (c .before .before .check-fields .ensures) ∙ c .enum-told .given .1)
+bolt-strengths-requires : tie.Need-bolt-strengths-requires
+bolt-strengths-requires c κs = search needs
+
+work-face-requires : tie.Need-work-face-requires
+work-face-requires c κs =
+    let told = c .before in
+    let j = start (inside told) .args .joint in
+    let r = in-range (j .column) (j .bolts) (j .face) (sym (inside told .check-fields .ensures) ∙ told .enum-told .given .1) in
+    record { column = r .column; bolt = rw (c .bolt-strengths .ensures) (bolt-in-range (j .bolts) (r .bolts)); face = r .face }
 
 returns : tie.Need-returns
 unfolding worked
 returns c =
-    let j = c .before .before .before .before .before .args .joint in
-    let found = sym (c .before .before .found .given .1) ∙ c .before .before .before .before .check-fields .ensures in (
-      c .refused .ensures ∙ ap (λ check. afterFields check (fromLevers j)) found,
-      (λ z. absurd (omega (arith, refusal-is 10 _ _ (c .refused .ensures) z))),
+    let told = c .before in
+    let j = start (outside told) .args .joint in
+    let found = sym (told .before .found .given .1) ∙ outside told .check-fields .ensures in
+    let face = workedFace (j .column) (boltStrengths (j .bolts)) (j .face) in (
+      c .refused .ensures ∙ ap (λ check. workedBy check face) found,
+      (λ none. absurd (omega (arith, refusal-is 10 _ _ (sym (c .refused .ensures)) none))),
     )
 
 returns-2 : tie.Need-returns-2
 unfolding worked
 returns-2 c =
-    let j = c .before .before .before .before .args .joint in
-    let found = sym (c .before .enum-told .given .1) ∙ c .before .before .before .check-fields .ensures in
-    (c .work-levers .ensures .0 ∙ ap (λ check. afterFields check (fromLevers j)) found, c .work-levers .ensures .1)
+    let bolts = c .before in
+    let told = bolts .before in
+    let j = start (inside told) .args .joint in
+    let found = sym (told .enum-told .given .1) ∙ inside told .check-fields .ensures in
+    let face = workedFace (j .column) (boltStrengths (j .bolts)) (j .face) in
+    let e = c .work-face .ensures .0 ∙ ap (λ bolt. workedFace (j .column) bolt (j .face)) (bolts .bolt-strengths .ensures)
+    ∙ ap (λ check. workedBy check face) found in
+    (e, worked-demand j (c .work-face .ensures .1) _ (sym e))
 
 pub work-spec : {M : Type 1} → statement M
 work-spec =
@@ -47,6 +79,7 @@ work-spec =
     enum-known-found
     refused-requires
     enum-told
-    work-levers-requires
+    bolt-strengths-requires
+    work-face-requires
     returns
     returns-2)

@@ -5,7 +5,8 @@ use borrow.Author.Needs.{needs}
 use native.Mathlib.Omega.{arith}
 use lib.ListN.{length}
 use denote.Ref.{now}
-use Rattle.numbers.proofs.Groups.{Head, Turn, head-none, head-more, answer-cut, answer-over, answer-longer, answer-value, last-fits, more-fits, scale-fits}
+use Rattle.numbers.proofs.Groups.{Head, Turn, head-none, head-more, answer-cut, answer-over, answer-longer, answer-value}
+use Rattle.numbers.proofs.Groups.{last-fits, more-fits, scale-fits}
 use Rattle.numbers.proofs.number.number_at.Statement.{statement}
 use Rattle.numbers.proofs.number.number_at.Tie as tie
 
@@ -30,16 +31,23 @@ sub-before c = omega arith
 add-at : tie.Need-add-at Inv-loop μ-loop
 add-at c = omega arith
 
+-- ---- the places: the head of the turn in which a byte was read, and the call's start
+
+abbrev head : tie.After-wide Inv-loop μ-loop → tie.At-loop Inv-loop μ-loop
+head c = c .before .before .before
+
+abbrev start : tie.At-loop Inv-loop μ-loop → tie.Start Inv-loop μ-loop
+start c = c .before .before
+
 -- what a turn knows once its byte is read
-turn : (c : tie.After-wide Inv-loop μ-loop)
-    → Turn (now (c .before .before .before .before .before .args .bytes)) (c .before .before .before .before .before .args .from)
-    (c .before .before .before .loop .at) (c .before .before .before .loop .scale) (c .before .before .before .loop .value) (c .wide .result)
+turn : (c : tie.After-wide Inv-loop μ-loop) → let args = start (head c) .args in let loop = head c .loop in
+    Turn (now (args .bytes)) (args .from) (loop .at) (loop .scale) (loop .value) (c .wide .result)
 turn c =
     record {
-      head = c .before .before .before .loop .inv;
+      head = head c .loop .inv;
       inside = c .before .before .loop-test .taken;
       reads = c .wide .ensures;
-      whole = omega (arith, c .before .shared-slice-known2 .given (c .before .before .before .loop .at));
+      whole = omega (arith, c .before .shared-slice-known2 .given (head c .loop .at));
     }
 
 -- a fifth byte above 15

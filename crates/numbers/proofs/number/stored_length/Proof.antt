@@ -30,7 +30,9 @@ cast-result-4 : tie.Need-cast-result-4
 cast-result-4 c = search needs
 
 add-result-4 : tie.Need-add-result-4
-add-result-4 c = omega (arith, bit-small (leb 128 (c .args .x)), bit-small (leb 16384 (c .args .x)), bit-small (leb 2097152 (c .args .x)), bit-small (leb 268435456 (c .args .x)))
+add-result-4 c =
+    let x = c .args .x in
+    omega (arith, bit-small (leb 128 x), bit-small (leb 16384 x), bit-small (leb 2097152 x), bit-small (leb 268435456 x))
 
 returns : tie.Need-returns
 returns c = stored-length (c .args .x)

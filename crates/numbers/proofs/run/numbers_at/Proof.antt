@@ -5,16 +5,20 @@ use mathlib.Core.Path.{ap, _∙_}
 use native.Mathlib.Omega.{arith}
 use borrow.Author.Needs.{needs}
 use lib.ListN.{length}
-use Rattle.numbers.specs.Number.{refusalNumber}
+use Rattle.numbers.specs.Answers.{refusalNumber}
 use Rattle.numbers.proofs.Runs.{RunHead, run-none, run-more, run-refused, run-done}
 use Rattle.numbers.proofs.run.numbers_at.Statement.{statement}
 use Rattle.numbers.proofs.run.numbers_at.Tie as tie
 
 abbrev Inv-loop : tie.InvT-loop
-Inv-loop bytes from values₀ at₀ i₀ values at i = RunHead bytes from (length values₀) values at i
+Inv-loop bytes from values₀ at₀ i₀ values at i = RunHead bytes from values₀ values at i
 
 abbrev μ-loop : tie.MeasureT-loop
 μ-loop bytes from values₀ at₀ i₀ values at i = length values₀ - i
+
+-- the head of the turn in which a number was read
+abbrev turn : tie.After-number-at Inv-loop μ-loop → tie.At-loop Inv-loop μ-loop
+turn c = c .before .before
 
 loop-holds : tie.Need-loop-holds Inv-loop μ-loop
 loop-holds c = run-none _ _ _
@@ -32,14 +36,14 @@ refusal-of-requires : tie.Need-refusal-of-requires Inv-loop μ-loop
 refusal-of-requires c κs = search needs
 
 same-length : tie.Need-same-length Inv-loop μ-loop
-same-length c = c .before .before .before .before .before .loop .inv .holds
+same-length c = turn (c .before .before .before) .loop .inv .holds
 
 returns : tie.Need-returns Inv-loop μ-loop
 returns c =
     let number = c .before .before .before in
     let refused = c .before .enum-told .given .1 in
     let is = c .refusal-of .ensures ∙ ap refusalNumber refused in
-    rw is (run-refused (number .before .before .loop .inv) (omega arith) _ (rw refused at (number .number-at .ensures)))
+    rw is (run-refused (turn number .loop .inv) (omega arith) _ (rw refused at (number .number-at .ensures)))
 
 mul-values : tie.Need-mul-values Inv-loop μ-loop
 mul-values c = search needs
@@ -56,7 +60,7 @@ loop-less c = search needs
 loop-again : tie.Need-loop-again Inv-loop μ-loop
 loop-again c =
     let number = c .before .before .before in
-    run-more (number .before .before .loop .inv) (omega arith) _ _ (rw (c .before .number .given .1) at (number .number-at .ensures))
+    run-more (turn number .loop .inv) (omega arith) _ _ (rw (c .before .number .given .1) at (number .number-at .ensures))
 
 same-length-2 : tie.Need-same-length-2 Inv-loop μ-loop
 same-length-2 c = c .before .loop .inv .holds

@@ -24,7 +24,11 @@ shared-slice-read-put-number : tie.Need-shared-slice-read-put-number Inv-loop μ
 shared-slice-read-put-number c = search needs
 
 put-number-requires : tie.Need-put-number-requires Inv-loop μ-loop
-put-number-requires c κs = puts-room (c .before .before .before .loop .inv) (c .before .before .loop-test .taken) (c .before .before .before .before .before .before .pre)
+put-number-requires c κs =
+    let tested = c .before .before in
+    let head = tested .before in
+    let start = head .before .before .before in
+    puts-room (head .loop .inv) (tested .loop-test .taken) (start .pre)
 
 add-done : tie.Need-add-done Inv-loop μ-loop
 add-done c = omega arith
@@ -34,8 +38,9 @@ loop-less c = omega arith
 
 loop-again : tie.Need-loop-again Inv-loop μ-loop
 loop-again c =
-    let loop = c .before .before .before .before .before .before .loop in
-    puts-more (loop .inv) (c .before .before .before .before .before .loop-test .taken) (c .before .before .put-number .ensures)
+    let put = c .before .before in
+    let tested = put .before .before .before in
+    puts-more (tested .before .loop .inv) (tested .loop-test .taken) (put .put-number .ensures)
 
 same-length : tie.Need-same-length Inv-loop μ-loop
 same-length c = c .before .loop .inv .holds

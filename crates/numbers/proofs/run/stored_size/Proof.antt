@@ -1,7 +1,8 @@
 -- `run::stored_size` meets its contract: the size so far and that of the numbers left make the whole. The measure is the count of
 -- numbers left. Assumes nothing.
-use Prim.Native.Nat.{_+_, _-_}
+use Prim.Native.Nat.{ℕ, _+_, _-_}
 use mathlib.Core.Path.{_≡_, ap}
+use mathlib.Core.List.{List}
 use native.Mathlib.Omega.{arith}
 use borrow.Author.Needs.{needs}
 use lib.ListN.{length, drop}
@@ -18,14 +19,22 @@ Inv-loop values size₀ i₀ size i = size + length (storedAll (drop i values)) 
 abbrev μ-loop : tie.MeasureT-loop
 μ-loop values size₀ i₀ size i = length values - i
 
+-- ---- the places: the head of the turn in which a number was measured, and the call's start
+
+abbrev turn : tie.After-stored-length Inv-loop μ-loop → tie.At-loop Inv-loop μ-loop
+turn c = c .before .before .before
+
+abbrev start : tie.At-loop Inv-loop μ-loop → tie.Start Inv-loop μ-loop
+start c = c .before .before
+
+abbrev numbers : tie.After-stored-length Inv-loop μ-loop → List ℕ
+numbers c = now (start (turn c) .args .values)
+
 -- the next number's part of the size
 next : (c : tie.After-stored-length Inv-loop μ-loop)
-    → c .before .before .before .loop .size + c .stored-length .result
-    + length (storedAll (drop (c .before .before .before .loop .i + 1) (now (c .before .before .before .before .before .args .values))))
-    ≡ length (storedAll (now (c .before .before .before .before .before .args .values)))
-next c =
-    let values = now (c .before .before .before .before .before .args .values) in
-    omega (arith, size-next values (c .before .before .before .loop .i) (c .before .before .loop-test .taken), c .stored-length .ensures)
+    → turn c .loop .size + c .stored-length .result + length (storedAll (drop (turn c .loop .i + 1) (numbers c)))
+    ≡ length (storedAll (numbers c))
+next c = omega (arith, size-next (numbers c) (turn c .loop .i) (c .before .before .loop-test .taken), c .stored-length .ensures)
 
 loop-holds : tie.Need-loop-holds Inv-loop μ-loop
 loop-holds c = omega arith
@@ -40,7 +49,7 @@ stored-length-requires : tie.Need-stored-length-requires Inv-loop μ-loop
 stored-length-requires c κs = search needs
 
 add-size : tie.Need-add-size Inv-loop μ-loop
-add-size c = omega (arith, next c, storedAll-short (now (c .before .before .before .before .before .args .values)), c .before .before .before .before .before .good)
+add-size c = omega (arith, next c, storedAll-short (numbers c), start (turn c) .good)
 
 add-i : tie.Need-add-i Inv-loop μ-loop
 add-i c = omega arith
@@ -53,7 +62,7 @@ loop-again c = next c
 
 returns : tie.Need-returns Inv-loop μ-loop
 returns c =
-    let values = now (c .before .before .before .args .values) in
+    let values = now (start (c .before) .args .values) in
     let none = ap length (stored-end values (c .before .loop .i) (c .loop-test .left)) in
     omega arith
 

@@ -1,0 +1,13 @@
+-- What the tests rely on, from fields in range: nothing here is document 01's. Assumes nothing.
+use Prim.Native.Nat.{ℕ, _≤_}
+use lib.ListN.{getD}
+use Rattle.arithmetic.specs.Range.{Within}
+use Rattle.joint.specs.Ranges.{depths, flanges}
+use Rattle.joint.specs.declared.Face.{Face}
+
+-- What finding the rows in place relies on.
+pub record PlacesInRange (face : Face) : Type 0 where
+  pub rows : face .rows ≤ 8
+  pub depth : Within depths (face .beam .depth)
+  pub flange : Within flanges (face .beam .flange)
+  pub lever : (row : ℕ) → getD (face .levers) row 0 ≤ 20000

@@ -1,0 +1,86 @@
+-- How large the figures of a T-stub and a web are that the code is called with: each bound by its name, and what each function asks.
+-- Assumes nothing.
+use Prim.Native.Nat.{ℕ, _≤_}
+use Rattle.arithmetic.specs.Range.{Range, Within, _to_}
+use Rattle.joint.specs.Ranges.{rowCounts, plateWidths, gauges, edges, levers}
+use Rattle.strength.specs.InRange.{yieldStrengths, mostThickness, mostPairTension}
+use Rattle.stubs.specs.declared.Stub.{Stub}
+use Rattle.stubs.specs.declared.Lengths.{Lengths}
+
+-- m of the column flange and the plate, and mx
+abbrev pub boltDistances : Range
+boltDistances = 500 to 15000
+
+abbrev pub extensionDistances : Range
+extensionDistances = 500 to 202500
+
+-- e of both
+abbrev pub edgeDistances : Range
+edgeDistances = 1000 to 30000
+
+-- the rows of a group, and its rise s: the greatest lever is that of a first row
+abbrev pub groupRows : Range
+groupRows = 0 to rowCounts .high
+
+abbrev pub rises : Range
+rises = 0 to levers 1 0 .high
+
+-- no yield-line pattern of one row is longer, and with the rise no effective length
+abbrev pub mostPattern : ℕ
+mostPattern = 120000
+
+abbrev pub mostLength : ℕ
+mostLength = 520000
+
+-- no 173g is above this, and no web's thickness times its strength
+abbrev pub mostWebGauge : ℕ
+mostWebGauge = 519000
+
+abbrev pub mostWeb : ℕ
+mostWeb = 142000
+
+-- ---- what each function asks
+
+-- of a T-stub's parts; n' is the lesser of the edge and 5m÷4
+pub record StubParts (m edge t y W : ℕ) : Type 0 where
+  pub distance : Within extensionDistances m
+  pub edge-most : edge ≤ edgeDistances .high
+  pub thickness : Within (0 to mostThickness) t
+  pub strength : Within yieldStrengths y
+  pub pair : Within (0 to mostPairTension) W
+
+pub record PatternParts (circular side s : ℕ) : Type 0 where
+  pub circular-most : circular ≤ mostPattern
+  pub side-most : side ≤ mostPattern
+  pub rise : Within rises s
+
+pub record ExtensionParts (mx edge e g bp : ℕ) : Type 0 where
+  pub distance : Within extensionDistances mx
+  pub edge-most : edge ≤ edges 1 .high
+  pub plate-edge : Within edgeDistances e
+  pub gauge : Within gauges g
+  pub width : Within plateWidths bp
+
+pub record WebParts (gauge s web : ℕ) : Type 0 where
+  pub gauge-most : Within (0 to mostWebGauge) gauge
+  pub rise : Within rises s
+  pub web-most : Within (0 to mostWeb) web
+
+-- ---- what comes of the parts
+
+pub record StubWithin (stub : Stub) : Type 0 where
+  pub flexure : Within (0 to 88750000) (stub .flexure)
+  pub yielding : Within (50000 to 20250000) (stub .yielding)
+  pub prying : Within (0 to 4712400000000) (stub .prying)
+  pub breaking : Within (100000 to 46500000) (stub .breaking)
+
+pub record LengthsWithin (lengths : Lengths) : Type 0 where
+  pub circular : Within (0 to mostPattern) (lengths .circular)
+  pub side : Within (0 to mostPattern) (lengths .side)
+
+-- and what bending asks of it
+pub record BendingParts (s : Stub) (W k L : ℕ) : Type 0 where
+  pub stub : StubWithin s
+  pub pair : Within (0 to mostPairTension) W
+  pub rows : Within groupRows k
+  pub length-most : Within (0 to mostLength) L

@@ -1,0 +1,23 @@
+-- How large the dimensions of a face are, and the groups that limits are asked for. Assumes nothing.
+use Prim.Native.Nat.{ℕ}
+use Rattle.arithmetic.specs.Range.{Within, _to_}
+use Rattle.strength.specs.InRange.{mostPairTension}
+use Rattle.stubs.specs.InRange.{groupRows, rises, mostPattern, mostWebGauge, mostWeb, StubWithin, LengthsWithin}
+use Rattle.tension.specs.declared.Dimensions.{Dimensions}
+
+pub record DimensionsWithin (d : Dimensions) : Type 0 where
+  pub column : StubWithin (d .column)
+  pub plate : StubWithin (d .plate)
+  pub column-lengths : LengthsWithin (d .«column_lengths»)
+  pub plate-lengths : LengthsWithin (d .«plate_lengths»)
+  pub near-flange : Within (0 to mostPattern) (d .«near_flange»)
+  pub gauge : Within (0 to mostWebGauge) (d .gauge)
+  pub column-web : Within (0 to mostWeb) (d .«column_web»)
+  pub beam-web : Within (0 to mostWeb) (d .«beam_web»)
+  pub pair : Within (0 to mostPairTension) (d .pair)
+
+-- a group of k rows whose rise is s
+pub record GroupInRange (d : Dimensions) (k s : ℕ) : Type 0 where
+  pub dimensions : DimensionsWithin d
+  pub rows : Within groupRows k
+  pub rise : Within rises s

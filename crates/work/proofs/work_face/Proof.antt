@@ -1,0 +1,104 @@
+-- `work_face` meets its contract: the list of refusals is cut after its fourth, and the admission tells what comes of the first four.
+-- Assumes nothing.
+use mathlib.Core.Path.{_≡_, refl, sym, ap, _∙_}
+use mathlib.Core.Bool.{true}
+use lib.ListN.{length, take, drop}
+use borrow.Author.Needs.{needs}
+use borrow.Author.Tests.{not-true}
+use Rattle.arithmetic.specs.Checks.{firstFailing}
+use Rattle.arithmetic.proofs.Checks.{one-after-another, of-each, held}
+use Rattle.joint.specs.declared.Column.{Column}
+use Rattle.joint.specs.declared.Face.{Face}
+use Rattle.strength.specs.declared.BoltStrengths.{BoltStrengths}
+use Rattle.tension.specs.Admissible.{Admissible}
+use Rattle.outcome.specs.declared.Outcome.{Outcome}
+use Rattle.work.specs.Work.{refusedBy, refusals, completed, resultOf, workedFace}
+use Rattle.work.specs.Steps.{admittedTo}
+use Rattle.work.specs.declared.Admission.{Admission}
+use Rattle.work.specs.declared.Admission.the-variants.{Admitted, Refused}
+use Rattle.work.proofs.Answers.{admitted}
+use Rattle.work.proofs.work_face.Statement.{statement}
+use Rattle.work.proofs.work_face.Tie as tie
+
+-- what an admission comes to is what the face comes to
+module _ (column : Column) (bolt : BoltStrengths) (face : Face) where
+  rest : Outcome
+  rest = firstFailing (completed (resultOf column bolt face)) (λ number. refusedBy number 0) (drop 4 (refusals column bolt face))
+
+  cut : (admission : Admission) → admission ≡ firstFailing Admitted Refused (take 4 (refusals column bolt face))
+      → admittedTo rest admission ≡ workedFace column bolt face
+  unfolding workedFace refusals rest
+  cut admission e =
+      ap (admittedTo rest) e
+      ∙ of-each (admittedTo rest) Admitted Refused (take 4 (refusals column bolt face))
+      ∙ sym (one-after-another (completed (resultOf column bolt face)) (λ number. refusedBy number 0)
+      (take 4 (refusals column bolt face)) (drop 4 (refusals column bolt face)))
+
+-- ---- the places
+
+abbrev start : tie.After-admit → tie.Start
+start c = c .before .before
+
+abbrev turned-down : tie.After-known-told → tie.After-admit
+turned-down c = c .before .before .before
+
+abbrev let-in : tie.After-enum-told → tie.After-admit
+let-in c = c .before .before
+
+-- ---- the needs
+
+measures-of-requires : tie.Need-measures-of-requires
+measures-of-requires c κs = search needs
+
+admit-requires : tie.Need-admit-requires
+admit-requires c κs = record { asked = c .before .pre; measured = c .measures-of .ensures }
+
+enum-known-admission : tie.Need-enum-known-admission
+enum-known-admission c = search needs
+
+refused-requires : tie.Need-refused-requires
+refused-requires c κs = search needs
+
+enum-told : tie.Need-enum-told
+enum-told c = search needs
+
+work-admitted-requires : tie.Need-work-admitted-requires
+work-admitted-requires c κs =
+    let admit = let-in c in
+    let s = start admit in
+    let passed = sym (admit .admit .ensures .0) ∙ c .enum-told .given .1 in
+    record {
+      admissible = admitted (s .args .column) (s .args .bolt) (s .args .face) (s .pre .column) (s .pre .face) (admit .admit .ensures .1) passed;
+      bolt = s .pre .bolt;
+      measured = admit .before .measures-of .ensures;
+    }
+
+returns : tie.Need-returns
+returns c =
+    let told = c .before in
+    let admit = turned-down told in
+    let a = start admit .args in
+    let first = sym (told .before .admission .given .1) ∙ admit .admit .ensures .0 in
+    (c .refused .ensures ∙ cut (a .column) (a .bolt) (a .face) _ first, admit .admit .ensures .1)
+
+returns-2 : tie.Need-returns-2
+unfolding rest
+returns-2 c =
+    let told = c .before in
+    let admit = let-in told in
+    let a = start admit .args in
+    let first = sym (told .enum-told .given .1) ∙ admit .admit .ensures .0 in
+    (c .work-admitted .ensures ∙ cut (a .column) (a .bolt) (a .face) _ first, admit .admit .ensures .1)
+
+pub work-face-spec : {M : Type 1} → statement M
+work-face-spec =
+    tie.close
+    (tie.spec
+    measures-of-requires
+    admit-requires
+    enum-known-admission
+    refused-requires
+    enum-told
+    work-admitted-requires
+    returns
+    returns-2)
