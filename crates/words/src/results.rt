@@ -54,7 +54,7 @@ fn figures_of(result: FaceResult) -> [u64; 9]
 // Puts the words at the front of a slice.
 pub fn put_result(result: FaceResult, words: &mut [u64])
     requires { ⌜ 17 ≤ length (now words) ⌝ }
-    ensures { λ _. ⌜ now (words .exit) ≡ atFront (resultWords result) (now (words .entry)) ⌝ }
+    ensures { λ _. ⌜ (length (result .forces) ≡ 8) × (now (words .exit) ≡ atFront (resultWords result) (now (words .entry))) ⌝ }
 {
     let forces = result.forces;
     let figures = figures_of(result);
