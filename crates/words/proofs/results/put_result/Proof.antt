@@ -51,12 +51,13 @@ returns c =
     let room = start known .pre in
     let result = args .result in
     let words = now (args .words) in
-    let eight = forces .put-eight-u64 .ensures .0 in
-    (eight,
-    figures .put-u64 .ensures
-    ∙ ap (sets (forces .put-eight-u64 .last .0) 8) (known .figures-of .ensures)
-    ∙ ap (λ (slice : List ℕ). sets slice 8 (figureWords result)) (forces .put-eight-u64 .ensures .1)
-    ∙ copied-after words (result .forces) (figureWords result) eight (omega (arith, figures-length result)))
+    let eight = forces .put-eight-u64 .ensures .0 in (
+      eight,
+      figures .put-u64 .ensures
+          ∙ ap (sets (forces .put-eight-u64 .last .0) 8) (known .figures-of .ensures)
+          ∙ ap (λ (slice : List ℕ). sets slice 8 (figureWords result)) (forces .put-eight-u64 .ensures .1)
+          ∙ copied-after words (result .forces) (figureWords result) eight (omega (arith, figures-length result)),
+    )
 
 pub put-result-spec : {M : Type 1} → statement M
 put-result-spec =
