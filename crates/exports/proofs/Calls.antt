@@ -1,122 +1,219 @@
--- Each exported call's definition on either side of 'a lent slice is too short', and where the bytes after a joint begin.
--- Assumes nothing.
-use Prim.Native.Nat.{ℕ, _-_, _≤_, _<_}
+-- What the calls lean on: where the bytes after a joint begin, that a refusal of Write leaves the buffer, that the parts of Work's refusal
+-- are small, and what the forces and the words at exit are. Assumes nothing.
+use Prim.Native.Nat.{ℕ, zero, suc, _+_, _-_, _≤_, _<_}
 use mathlib.Core.Path.{_≡_, refl, sym, ap, _∙_}
-use mathlib.Core.List.{List}
+use mathlib.Core.List.{List, [], _∷_, _++_, append-assoc}
+use mathlib.Core.Bool.{Bool, true, false, cond, _&&_, and-eq-true-iff}
 use native.Mathlib.Omega.{arith}
-use borrow.Author.Tests.{le-leb, lt-leb}
-use lib.ListN.{length}
-use Rattle.joint.specs.declared.Joint.{Joint}
-use Rattle.allocation.specs.declared.Allocation.{Allocation}
-use Rattle.allocation.specs.Allocation.{allocated}
-use Rattle.numbers.specs.Parse.{Outcome as Reads, got, refused}
-use Rattle.numbers.specs.Number.{Bytes}
-use Rattle.jointfile.specs.File.{readJoint, answer, reading, leftOf, restOf}
-use Rattle.jointfile.specs.Write.{writing, writtenTold}
-use Rattle.jointfile.specs.declared.Reading.{Reading}
-use Rattle.jointfile.specs.declared.Written.{Written}
-use Rattle.jointfile.proofs.Places.{left-shorter}
-use Rattle.outcome.specs.declared.Outcome.{Outcome}
-use Rattle.work.specs.Work.{worked}
-use Rattle.printer.specs.Sheet.{printing, sheetLines, printedTold}
-use Rattle.printer.specs.declared.Printed.{Printed}
-use Rattle.words.specs.Words.{jointOfWords, wordsOf}
+use borrow.Author.Tests.{le-leb, leb-true}
+use lib.Dec.{leb, eqb}
+use lib.ListN.{length, getD, take, drop, length-append, length-take, length-drop}
+use lib.Seq.{take-at, take-append-le, getD-append-add, length-take-le}
+use Rattle.arithmetic.specs.Checks.{Check, firstFailing}
+use Rattle.arithmetic.proofs.Checks.{one-after-another}
 use Rattle.buffers.specs.Put.{atFront}
-use Rattle.words.specs.Outcomes.{outcomeWords}
-use Rattle.exports.specs.Calls.{allocateTold, allocateAnswer, allocating, readAnswer, readingInto, writeAnswer, writingInto, workTold, workAnswer, workingInto, sheetAnswer, sheetingInto}
-
--- ---- Allocate
-
-pub allocate-short : (count : ℕ) (limits forces : List ℕ) → length forces < 8 → allocateTold 100 forces ≡ allocating count limits forces
-unfolding allocating
-allocate-short count limits forces short = simp (lt-leb 8 (length forces) short)
-
-allocate-taken : (count : ℕ) (limits forces : List ℕ) → 8 ≤ length forces
-    → allocateAnswer (allocated count limits) forces ≡ allocating count limits forces
-unfolding allocating
-allocate-taken count limits forces room = simp (le-leb 8 (length forces) room)
-
-pub allocate-answer : (count : ℕ) (limits forces : List ℕ) {allocation : Allocation} {exit : List ℕ} → 8 ≤ length forces
-    → allocation ≡ allocated count limits → exit ≡ atFront (allocation .forces) forces
-    → allocateTold (allocation .refusal) exit ≡ allocating count limits forces
-allocate-answer count limits forces {allocation} room is put =
-    ap (allocateTold (allocation .refusal)) put
-    ∙ ap (λ (a : Allocation). allocateAnswer a forces) is
-    ∙ allocate-taken count limits forces room
-
--- ---- Read
-
-pub read-short : (bytes fields : List ℕ) (next : ℕ) → length fields < 37
-    → record { number = 100; fields = fields; next = next } ≡ readingInto bytes fields next
-unfolding readingInto
-read-short bytes fields next short = simp (lt-leb 37 (length fields) short)
-
-read-room : (bytes fields : List ℕ) (next : ℕ) → 37 ≤ length fields → readAnswer (reading bytes) fields ≡ readingInto bytes fields next
-unfolding readingInto
-read-room bytes fields next room = simp (le-leb 37 (length fields) room)
-
-pub read-answer : (bytes fields : List ℕ) (next : ℕ) {answer : Reading} {exit : List ℕ} → 37 ≤ length fields
-    → answer ≡ reading bytes → exit ≡ atFront (wordsOf (answer .joint)) fields
-    → record { number = answer .refusal; fields = exit; next = answer .next } ≡ readingInto bytes fields next
-read-answer bytes fields next {answer} room is put =
-    (λ i. record { number = answer .refusal; fields = put i; next = answer .next })
-    ∙ ap (λ (r : Reading). readAnswer r fields) is
-    ∙ read-room bytes fields next room
+use Rattle.joint.specs.declared.Joint.{Joint}
+use Rattle.joint.specs.declared.FieldCheck.{FieldCheck}
+use Rattle.joint.specs.declared.FieldCheck.the-variants.{AllInRange, Outside}
+use Rattle.joint.specs.Fields.{leverChecks, fixedChecks, fieldChecks, fieldCheck, fieldOf}
+use Rattle.numbers.specs.Parse.{Parse, got, refused}
+use Rattle.numbers.specs.Run.{storedAll}
+use Rattle.numbers.proofs.Sizes.{groups-positive}
+use Rattle.fields.specs.Fields.{jointOf, fieldsOf}
+use Rattle.jointfile.specs.File.{readJoint, answer, reading, leftOf, restOf}
+use Rattle.jointfile.specs.Write.{fileOf, file, Writing, turnedDown, writing}
+use Rattle.jointfile.specs.Answers.{writtenMeaning}
+use Rattle.jointfile.specs.declared.Written.{Written}
+use Rattle.jointfile.specs.declared.Written.the-variants.{Length, Refused}
+use Rattle.jointfile.proofs.Ends.{joint-shorter}
+use Rattle.sharing.specs.Groups.{Table}
+use Rattle.sharing.specs.Best.{Best}
+use Rattle.outcome.specs.declared.FaceResult.{FaceResult}
+use Rattle.outcome.specs.declared.Outcome.{Outcome}
+use Rattle.outcome.specs.declared.Refusal.{Refusal}
+use Rattle.strength.specs.Bolt.{boltStrengths}
+use Rattle.work.specs.Work.{refusals, refusedBy, workedFace, workedBy, worked}
+use Rattle.work.specs.Demand.{Demand3Of}
+use Rattle.printer.specs.Sheet.{sheetOf}
+use Rattle.printer.specs.Answers.{printing, printedMeaning}
+use Rattle.printer.specs.declared.Printed.{Printed}
+use Rattle.words.specs.Words.{leversOfWords, jointOfWords}
+use Rattle.words.specs.Results.{flag, figureWords, resultWords}
+use Rattle.exports.specs.Answers.{answers}
+use Rattle.exports.specs.Calls.{filePut, writingInto, Demand3OfWords, sheetAnswer, sheetingInto}
+use Rattle.exports.proofs.Answers.{taken, refused as answer-refused}
 
 -- ---- Rest
 
 pub rest-next : (bytes : List ℕ) → length bytes - length (restOf bytes) ≡ reading bytes .next
 rest-next bytes = go (readJoint bytes)
   where
-    go : (outcome : Reads Joint) → length bytes - length (leftOf outcome) ≡ answer (length bytes) outcome .next
+    go : (outcome : Parse Joint) → length bytes - length (leftOf outcome) ≡ answer (length bytes) outcome .next
     go (got joint left) = refl
     go (refused r) = omega arith
 
-pub rest-within : (bytes : List ℕ) → Bytes bytes → length (restOf bytes) ≤ length bytes
-rest-within bytes all = go (readJoint bytes) refl
+pub rest-within : (bytes : List ℕ) → length (restOf bytes) ≤ length bytes
+rest-within bytes = go (readJoint bytes) refl
   where
-    go : (outcome : Reads Joint) → readJoint bytes ≡ outcome → length (leftOf outcome) ≤ length bytes
-    go (got joint left) e = omega (arith, left-shorter bytes joint left all e)
+    go : (outcome : Parse Joint) → readJoint bytes ≡ outcome → length (leftOf outcome) ≤ length bytes
+    go (got joint left) e = omega (arith, joint-shorter bytes joint left e)
     go (refused r) e = omega arith
 
--- ---- Write
+-- ---- what comes of checks whose numbers are known to lie in a range
 
-pub write-short : (fields buffer : List ℕ) (size : ℕ) → length fields < 37
-    → record { number = 100; buffer = buffer; count = size } ≡ writingInto fields buffer size
-unfolding writingInto
-write-short fields buffer size short = simp (lt-leb 37 (length fields) short)
+allWithin : (low high : ℕ) → List Check → Bool
+allWithin low high [] = true
+allWithin low high (check ∷ checks) = leb low (check .0) && (leb (check .0) high && allWithin low high checks)
 
-pub write-taken : (fields buffer : List ℕ) (size : ℕ) → 37 ≤ length fields → {written told : Written} (exit : List ℕ) → written ≡ told
-    → writtenTold written exit ≡ writing (jointOfWords fields) buffer → writeAnswer (writtenTold told exit) ≡ writingInto fields buffer size
-unfolding writingInto
-write-taken fields buffer size room {written} {told} exit is e =
-    simp (le-leb 37 (length fields) room) (ap (λ (w : Written). writeAnswer (writtenTold w exit)) (sym is) ∙ ap writeAnswer e)
+-- what holds where none fails, and of each number in the range, holds of the first that fails
+by-number : {A : Type 0} (P : A → Type 0) (low high : ℕ) (passed : A) (failed : ℕ → A) (checks : List Check)
+    → allWithin low high checks ≡ true → P passed → ((number : ℕ) → low ≤ number → number ≤ high → P (failed number))
+    → P (firstFailing passed failed checks)
+unfolding firstFailing allWithin
+by-number P low high passed failed [] all none some = none
+by-number P low high passed failed ((number, test) ∷ checks) all none some =
+    let both = and-eq-true-iff (leb low number) (leb number high && allWithin low high checks) .0 all in
+    let upper = and-eq-true-iff (leb number high) (allWithin low high checks) .0 (both .1) in
+    go test (by-number P low high passed failed checks (upper .1) none some)
+    (some number (leb-true low number (both .0)) (leb-true number high (upper .0)))
+  where
+    go : (t : Bool) → P (firstFailing passed failed checks) → P (failed number) → P (cond t (firstFailing passed failed checks) (failed number))
+    go true others here = others
+    go false others here = here
 
--- ---- Work
+-- ---- Write: whatever is refused, the number isn't 0 and the buffer is as it was
 
-pub work-few : (fields words : List ℕ) → length fields < 37 → workTold 100 words ≡ workingInto fields words
-unfolding workingInto
-work-few fields words short = simp (lt-leb 37 (length fields) short)
+some-file : (joint : Joint) → 0 < length (file joint)
+unfolding fileOf fieldsOf storedAll
+some-file joint = rw length-append (omega (arith, groups-positive 4 (joint .face .rows)))
 
-pub work-short : (fields words : List ℕ) → 37 ≤ length fields → length words < 19 → workTold 100 words ≡ workingInto fields words
-unfolding workingInto
-work-short fields words room short = simp (le-leb 37 (length fields) room, lt-leb 19 (length words) short)
+pub record Untouched (buffer exit : List ℕ) (number : ℕ) : Type 0 where
+  pub some : number ≡ 0 → ⊥
+  pub kept : exit ≡ buffer
 
-work-taken : (fields words : List ℕ) → 37 ≤ length fields → 19 ≤ length words
-    → workAnswer (worked (jointOfWords fields)) words ≡ workingInto fields words
-unfolding workingInto
-work-taken fields words room place = simp (le-leb 37 (length fields) room, le-leb 19 (length words) place)
+pub write-untouched : (joint : Joint) (buffer exit : List ℕ) (number : ℕ) → turnedDown exit number ≡ writing joint buffer
+    → Untouched buffer exit number
+unfolding writing allWithin
+write-untouched joint buffer exit number e =
+    by-number (λ (w : Writing). turnedDown exit number ≡ w → Untouched buffer exit number) 1 8 _ (turnedDown buffer) _ refl
+    (λ wrote. let size = ap (λ (w : Writing). w .size) wrote in absurd (omega (arith, size, some-file joint)))
+    (λ refusal low high is. record {
+      some = λ none. let same = ap (λ (w : Writing). w .refusal) is in omega (arith, same, none, low);
+      kept = ap (λ (w : Writing). w .buffer) is;
+    })
+    e
 
-pub work-answer : (fields words : List ℕ) {joint : Joint} {outcome : Outcome} {exit : List ℕ} → 37 ≤ length fields → 19 ≤ length words
-    → joint ≡ jointOfWords fields → outcome ≡ worked joint → exit ≡ atFront (outcomeWords outcome) words
-    → workTold (outcome .refusal) exit ≡ workingInto fields words
-work-answer fields words {joint} {outcome} room place same is put =
-    ap (workTold (outcome .refusal)) put
-    ∙ ap (λ (o : Outcome). workAnswer o words) (is ∙ ap worked same)
-    ∙ work-taken fields words room place
+module _ (fields buffer : List ℕ) (size : ℕ) (room : 37 ≤ length fields) {joint : Joint} (same : joint ≡ jointOfWords fields)
+    {written : Written} (exit : List ℕ) (means : writtenMeaning written exit ≡ writing joint buffer) where
+  -- what the answer's case says
+  case-means : {case : Written} → written ≡ case → writtenMeaning case exit ≡ writing (jointOfWords fields) buffer
+  case-means is = sym (ap (λ (w : Written). writtenMeaning w exit) is) ∙ means ∙ ap (λ (j : Joint). writing j buffer) same
+
+  pub write-put : {count : ℕ} → written ≡ Length count → answers 0 (record { bytes = exit; size = count }) ≡ writingInto fields buffer size
+  write-put is =
+      let file-put = case-means is in
+      taken _ 0 _ _ (le-leb 37 (length fields) room) (sym (ap (λ (w : Writing). w .refusal) file-put)) (ap filePut file-put)
+
+  pub write-refused : {number : ℕ} → written ≡ Refused number
+      → answers number (record { bytes = exit; size = size }) ≡ writingInto fields buffer size
+  write-refused {number} is =
+      let down = case-means is in
+      let untouched = write-untouched (jointOfWords fields) buffer exit number down in
+      ap (λ (bytes : List ℕ). answers number (record { bytes = bytes; size = size })) (untouched .kept)
+      ∙ answer-refused _ _ _ (le-leb 37 (length fields) room) (ap (λ (w : Writing). w .refusal) down) (untouched .some)
+
+-- ---- Work: a refusal has a number up to 15, and a field up to 37
+
+pub record Small (refusal : Refusal) : Type 0 where
+  pub number : refusal .number ≤ 15
+  pub field : refusal .field ≤ 37
+
+levers-within : (n row : ℕ) (levers : List ℕ) → row + length levers ≤ 8 → allWithin 1 37 (leverChecks n row levers) ≡ true
+unfolding leverChecks allWithin
+levers-within n row [] few = refl
+levers-within n row (h ∷ hs) few =
+    rw (le-leb 1 (30 + row) (omega arith), le-leb (30 + row) 37 (omega arith)) (levers-within n (suc row) hs (omega arith))
+
+field-small : (joint : Joint) → length (joint .face .levers) ≡ 8 → fieldOf (fieldCheck (joint .column) (joint .bolts) (joint .face)) ≤ 37
+unfolding fieldCheck fieldChecks fixedChecks allWithin
+field-small joint eight =
+    let levers = leverChecks (joint .face .rows) 0 (joint .face .levers) in
+    rw (one-after-another AllInRange Outside (fixedChecks (joint .column) (joint .bolts) (joint .face)) levers)
+    (by-number (λ (f : FieldCheck). fieldOf f ≤ 37) 1 37 _ Outside _ refl
+    (by-number (λ (f : FieldCheck). fieldOf f ≤ 37) 1 37 AllInRange Outside levers
+    (levers-within (joint .face .rows) 0 (joint .face .levers) (omega arith)) (omega arith) (λ number low high. high))
+    (λ number low high. high))
+
+face-small : (joint : Joint)
+    → Small (workedFace (joint .column) (boltStrengths (joint .bolts)) (joint .face) .refusal)
+unfolding workedFace refusals allWithin
+face-small joint =
+    by-number (λ (o : Outcome). Small (o .refusal)) 11 15 _ (λ number. refusedBy number 0) _ refl
+    (record { number = omega arith; field = omega arith }) (λ number low high. record { number = high; field = omega arith })
+
+pub work-small : (joint : Joint) → length (joint .face .levers) ≡ 8 → Small (worked joint .refusal)
+unfolding worked
+work-small joint eight = go (fieldCheck (joint .column) (joint .bolts) (joint .face)) (field-small joint eight)
+  where
+    go : (found : FieldCheck) → fieldOf found ≤ 37
+        → Small (workedBy found (workedFace (joint .column) (boltStrengths (joint .bolts)) (joint .face)) .refusal)
+    go AllInRange small = face-small joint
+    go (Outside field) small = record { number = omega arith; field = small }
+
+levers-eight : (fields : List ℕ) → 37 ≤ length fields → length (jointOfWords fields .face .levers) ≡ 8
+unfolding jointOf leversOfWords
+levers-eight fields room = length-take-le 8 (drop 29 fields) (omega (arith, length-drop 29 fields))
+
+pub refusal-small : (fields : List ℕ) → 37 ≤ length fields → {joint : Joint} {outcome : Outcome} → joint ≡ jointOfWords fields
+    → outcome ≡ worked joint → Small (outcome .refusal)
+refusal-small fields room same is = rw (is, same) (work-small (jointOfWords fields) (levers-eight fields room))
 
 -- ---- Sheet
 
-pub sheet-answer : (input output : List ℕ) {printed told : Printed} (exit : List ℕ) → printed ≡ told
-    → printedTold printed exit ≡ printing (sheetLines input) output → sheetAnswer (printedTold told exit) ≡ sheetingInto input output
-sheet-answer input output exit is e = ap (λ (p : Printed). sheetAnswer (printedTold p exit)) (sym is) ∙ ap sheetAnswer e
+pub sheet-answer : (input output : List ℕ) (size : ℕ) {printed case : Printed} (exit : List ℕ) → printed ≡ case
+    → printedMeaning printed exit ≡ printing (sheetOf input) output
+    → sheetAnswer size (printedMeaning case exit) ≡ sheetingInto input output size
+sheet-answer input output size exit is means =
+    ap (λ (p : Printed). sheetAnswer size (printedMeaning p exit)) (sym is) ∙ ap (sheetAnswer size) means
+
+-- ---- what stands at the front, at exit
+
+-- the best forces of some rows among eight places are the first places
+pub best-front : (limit : Table) (count : ℕ) (eight forces : List ℕ) → length eight ≡ 8 → Best limit count (take count eight)
+    → Best limit count (take count (atFront eight forces))
+best-front limit count eight forces size best =
+    let few : count ≤ length eight = omega (arith, best .competes .rows, length-take count eight) in
+    rw (take-append-le count eight (drop (length eight) forces) few) best
+
+module _ (result : FaceResult) (words : List ℕ) (eight : length (result .forces) ≡ 8) where
+  abbrev rest : List ℕ
+  rest = drop (length (resultWords result)) words
+
+  forces-first : take 8 (atFront (resultWords result) words) ≡ result .forces
+  forces-first =
+      rw (append-assoc (result .forces) (figureWords result) rest) (take-at (result .forces) (figureWords result ++ rest) 8 eight)
+
+  bending-word : getD (atFront (resultWords result) words) 13 0 ≡ flag (result .verdicts .bending)
+  unfolding figureWords
+  bending-word =
+      let place : 13 ≡ length (result .forces) + 5 = omega arith in
+      rw (append-assoc (result .forces) (figureWords result) rest, place) (getD-append-add (result .forces) (figureWords result ++ rest) 5 0)
+
+flag-back : (passes : Bool) → eqb (flag passes) 1 ≡ passes
+flag-back true = refl
+flag-back false = refl
+
+-- demand 3 of the words at exit
+pub demand-words : (fields words : List ℕ) {joint : Joint} (outcome : Outcome) {exit : List ℕ} → joint ≡ jointOfWords fields
+    → length (outcome .result .forces) ≡ 8 → exit ≡ atFront (resultWords (outcome .result)) words → Demand3Of joint outcome
+    → Demand3OfWords fields exit
+demand-words fields words outcome same eight put demand =
+    let result = outcome .result in
+    rw (
+      put,
+      forces-first result words eight,
+      bending-word result words eight,
+      flag-back (result .verdicts .bending),
+      ← same,
+    )
+    demand

@@ -1,2 +1,3 @@
--- What the proofs of several calls use. Assumes nothing.
+-- What the proofs of several calls use: the three ways out (`Answers`), and what each call leans on (`Calls`). Assumes nothing.
+pub mod Answers
 pub mod Calls

@@ -1,97 +1,70 @@
--- What each exported call answers and leaves in the slices that it is lent. 100: a lent slice is too short, and all is as it was.
--- Assumes nothing.
+-- Each exported call: which slices are long enough, which refusal is answered, and what is put where. Assumes nothing.
 use Prim.Native.Nat.{ℕ}
 use mathlib.Core.List.{List}
-use mathlib.Core.Bool.{cond}
-use lib.Dec.{leb}
-use lib.ListN.{length}
+use mathlib.Core.Bool.{_&&_}
+use lib.Dec.{leb, eqb}
+use lib.ListN.{length, getD, take}
+use Rattle.buffers.specs.Put.{atFront}
 use Rattle.allocation.specs.Allocation.{allocated}
-use Rattle.allocation.specs.declared.Allocation.{Allocation}
 use Rattle.jointfile.specs.File.{reading}
 use Rattle.jointfile.specs.Write.{Writing, writing}
 use Rattle.jointfile.specs.declared.Reading.{Reading}
-use Rattle.outcome.specs.declared.Outcome.{Outcome}
+use Rattle.strength.specs.Bolt.{boltStrengths}
 use Rattle.work.specs.Work.{worked}
-use Rattle.printer.specs.Sheet.{Printing, whole, cut, printing, sheetLines}
+use Rattle.work.specs.Demand.{Demand3}
+use Rattle.printer.specs.Sheet.{sheetOf}
+use Rattle.printer.specs.Answers.{Printing, whole, noRoom, printing}
 use Rattle.words.specs.Words.{jointOfWords, wordsOf}
-use Rattle.buffers.specs.Put.{atFront}
-use Rattle.words.specs.Outcomes.{outcomeWords}
+use Rattle.words.specs.Results.{resultWords}
+use Rattle.exports.specs.Answers.{Answered, answers, answered}
 
--- ---- Allocate
-
-pub record AllocateTold : Type 0 where
-  pub number : ℕ
-  pub forces : List ℕ
-
-abbrev pub allocateTold : ℕ → List ℕ → AllocateTold
-allocateTold number forces = record { number = number; forces = forces }
-
-abbrev pub allocateAnswer : Allocation → List ℕ → AllocateTold
-allocateAnswer allocation forces = allocateTold (allocation .refusal) (atFront (allocation .forces) forces)
-
-unfoldable pub allocating : ℕ → List ℕ → List ℕ → AllocateTold
-allocating count limits forces =
-    cond (leb 8 (length forces)) (allocateAnswer (allocated count limits) forces) (allocateTold 100 forces)
-
--- ---- Read
-
-pub record ReadTold : Type 0 where
-  pub number : ℕ
-  pub fields : List ℕ
+-- a joint's words and the place after it
+pub record JointPlace : Type 0 where
+  pub words : List ℕ
   pub next : ℕ
 
-abbrev pub readAnswer : Reading → List ℕ → ReadTold
-readAnswer reading fields =
-    record { number = reading .refusal; fields = atFront (wordsOf (reading .joint)) fields; next = reading .next }
+-- a buffer, and the count of bytes at its front
+pub record Filled : Type 0 where
+  pub bytes : List ℕ
+  pub size : ℕ
 
-unfoldable pub readingInto : List ℕ → List ℕ → ℕ → ReadTold
-readingInto bytes fields next =
-    cond (leb 37 (length fields)) (readAnswer (reading bytes) fields) (record { number = 100; fields = fields; next = next })
+abbrev pub allocating : (count : ℕ) (limits forces : List ℕ) → Answered (List ℕ)
+allocating count limits forces =
+    let allocation = allocated count limits in
+    answered (leb 8 (length forces)) (allocation .refusal) 0 (atFront (allocation .forces) forces) forces
 
--- ---- Write
+abbrev pub jointPut : Reading → List ℕ → JointPlace
+jointPut read words = record { words = atFront (wordsOf (read .joint)) words; next = read .next }
 
-pub record WriteTold : Type 0 where
-  pub number : ℕ
-  pub buffer : List ℕ
-  pub count : ℕ
+abbrev pub readingInto : (bytes words : List ℕ) (next : ℕ) → Answered JointPlace
+readingInto bytes words next =
+    let read = reading bytes in
+    answered (leb 37 (length words)) (read .refusal) 0 (jointPut read words) (record { words = words; next = next })
 
-abbrev pub writeAnswer : Writing → WriteTold
-writeAnswer writing = record { number = writing .refusal; buffer = writing .buffer; count = writing .size }
+abbrev pub filePut : Writing → Filled
+filePut written = record { bytes = written .buffer; size = written .size }
 
-unfoldable pub writingInto : List ℕ → List ℕ → ℕ → WriteTold
+abbrev pub writingInto : (fields buffer : List ℕ) (size : ℕ) → Answered Filled
 writingInto fields buffer size =
-    cond (leb 37 (length fields)) (writeAnswer (writing (jointOfWords fields) buffer))
-    (record { number = 100; buffer = buffer; count = size })
+    let written = writing (jointOfWords fields) buffer in
+    answered (leb 37 (length fields)) (written .refusal) 0 (filePut written) (record { bytes = buffer; size = size })
 
--- ---- Work
-
-pub record WorkTold : Type 0 where
-  pub number : ℕ
-  pub outcome : List ℕ
-
-abbrev pub workTold : ℕ → List ℕ → WorkTold
-workTold number outcome = record { number = number; outcome = outcome }
-
-abbrev pub workAnswer : Outcome → List ℕ → WorkTold
-workAnswer outcome words = workTold (outcome .refusal) (atFront (outcomeWords outcome) words)
-
-unfoldable pub workingInto : List ℕ → List ℕ → WorkTold
+abbrev pub workingInto : (fields words : List ℕ) → Answered (List ℕ)
 workingInto fields words =
-    cond (leb 37 (length fields))
-    (cond (leb 19 (length words)) (workAnswer (worked (jointOfWords fields)) words) (workTold 100 words))
-    (workTold 100 words)
+    let outcome = worked (jointOfWords fields) in
+    answered (leb 37 (length fields) && leb 17 (length words)) (outcome .refusal .number) (outcome .refusal .field)
+    (atFront (resultWords (outcome .result)) words) words
 
--- ---- Sheet
-
-pub record SheetTold : Type 0 where
-  pub number : ℕ
-  pub output : List ℕ
-  pub count : ℕ
+-- Demand 3 of the words at exit: the first eight are the answer's places for forces, and the fourteenth is its verdict on bending.
+abbrev pub Demand3OfWords : (fields words : List ℕ) → Type 0
+Demand3OfWords fields words =
+    let joint = jointOfWords fields in
+    Demand3 (joint .column) (boltStrengths (joint .bolts)) (joint .face) (take 8 words) (eqb (getD words 13 0) 1)
 
 -- 101: there is no room for all lines
-abbrev pub sheetAnswer : Printing → SheetTold
-sheetAnswer (whole size output) = record { number = 0; output = output; count = size }
-sheetAnswer (cut output) = record { number = 101; output = output; count = 0 }
+abbrev pub sheetAnswer : (size : ℕ) → Printing → Answered Filled
+sheetAnswer size (whole total output) = answers 0 (record { bytes = output; size = total })
+sheetAnswer size (noRoom output) = answers 101 (record { bytes = output; size = size })
 
-abbrev pub sheetingInto : List ℕ → List ℕ → SheetTold
-sheetingInto input output = sheetAnswer (printing (sheetLines input) output)
+abbrev pub sheetingInto : (input output : List ℕ) (size : ℕ) → Answered Filled
+sheetingInto input output size = sheetAnswer size (printing (sheetOf input) output)

@@ -1,14 +1,25 @@
 // The calls as C and Rust see them: over numbers and lent slices. A joint is 37 words of 32 bits, document 01's fields in file order
-// with spare levers; N is its two's complement. Answers are document 01's refusal numbers, 0 for none; and 100, with nothing
-// written, where a lent slice is too short to hold a joint or an answer; of the sheet, 101 where the output has no room for all lines.
+// with spare levers; N is its two's complement. A face's result is 17 words of 64 bits.
+//
+// An answer tells all of a refusal in its parts: document 01's number in the lowest 8 bits, and the field, for 10, times 256. 0 is no
+// refusal; 100 says that a lent slice is too short to hold a joint or a result, and 101, of the sheet alone, that the output has no room
+// for all lines. Whatever the answer is but 0, every slice and place is as it was. The sheet's refusals are its lines: they are printed,
+// `R 4` too, and answered 0.
 ghost use mathlib.Core.Path.{_≡_};
+ghost use lib.ListN.{take};
 ghost use Rattle.jointfile.specs.File.{reading};
-ghost use Rattle.exports.specs.Calls.{allocateTold, allocating, readingInto, writingInto, workTold, workingInto, sheetingInto};
+ghost use Rattle.sharing.specs.Groups.{listed};
+ghost use Rattle.sharing.specs.Best.{Best};
+ghost use Rattle.exports.specs.Answers.{answers};
+ghost use Rattle.exports.specs.Calls.{allocating, readingInto, writingInto, workingInto, Demand3OfWords, sheetingInto};
 use jointfile::Written;
 use printer::Printed;
 
 // A joint's words.
 const JOINT_WORDS: usize = 37;
+
+// The words of a face's result.
+const RESULT_WORDS: usize = 17;
 
 // A lent slice is too short.
 const SHORT: u32 = 100;
@@ -16,32 +27,39 @@ const SHORT: u32 = 100;
 // The output has no room for all lines.
 const NO_ROOM: u32 = 101;
 
-// Allocate: the forces go to the first eight places.
+// Allocate: the forces go to the first eight places, and are the best that the limits allow.
 #[no_mangle]
 pub extern "C" fn jinqewan_allocate(count: usize, limits: &[u64], forces: &mut [u64]) -> u32
-    ensures { λ r. ⌜ allocateTold r (now (forces .exit)) ≡ allocating count (now (limits .entry)) (now (forces .entry)) ⌝ }
+    ensures equals { λ r. ⌜ answers r (now (forces .exit)) ≡ allocating count (now (limits .entry)) (now (forces .entry)) ⌝ }
+    ensures best { λ r. ⌜ (r ≡ 0 → Best (listed count (now (limits .entry))) count (take count (now (forces .exit)))) ⌝ }
 {
     if forces.len() < 8 {
         return SHORT;
     }
     let allocation = allocation::allocate(count, limits);
+    if allocation.refusal != 0 {
+        return allocation.refusal;
+    }
     let eight = allocation.forces;
     words::put::put_eight_u64(forces, 0, eight);
-    allocation.refusal
+    0
 }
 
 // Read: the joint goes to the first 37 places, and the place after it to `next`.
 #[no_mangle]
 pub extern "C" fn jinqewan_read(bytes: &[u8], fields: &mut [u32], next: &mut usize) -> u32
-    ensures { λ r. ⌜ record { number = r; fields = now (fields .exit); next = now (next .exit) } ≡ readingInto (now (bytes .entry)) (now (fields .entry)) (now (next .entry)) ⌝ }
+    ensures { λ r. ⌜ answers r (record { words = now (fields .exit); next = now (next .exit) }) ≡ readingInto (now (bytes .entry)) (now (fields .entry)) (now (next .entry)) ⌝ }
 {
     if fields.len() < JOINT_WORDS {
         return SHORT;
     }
     let reading = jointfile::read(bytes);
+    if reading.refusal != 0 {
+        return reading.refusal;
+    }
     words::joints::put_joint(reading.joint, fields);
     *next = reading.next;
-    reading.refusal
+    0
 }
 
 // Rest: the place where the part after the first joint begins, the end when it can't be read.
@@ -53,10 +71,10 @@ pub extern "C" fn jinqewan_rest(bytes: &[u8]) -> usize
     bytes.len() - left.len()
 }
 
-// Write: the file goes to the buffer's front and its length to `length`, 0 in a refusal.
+// Write: the file goes to the buffer's front and its length to `length`.
 #[no_mangle]
 pub extern "C" fn jinqewan_write(fields: &[u32], buffer: &mut [u8], length: &mut usize) -> u32
-    ensures { λ r. ⌜ record { number = r; buffer = now (buffer .exit); count = now (length .exit) } ≡ writingInto (now (fields .entry)) (now (buffer .entry)) (now (length .entry)) ⌝ }
+    ensures { λ r. ⌜ answers r (record { bytes = now (buffer .exit); size = now (length .exit) }) ≡ writingInto (now (fields .entry)) (now (buffer .entry)) (now (length .entry)) ⌝ }
 {
     if fields.len() < JOINT_WORDS {
         return SHORT;
@@ -67,34 +85,36 @@ pub extern "C" fn jinqewan_write(fields: &[u32], buffer: &mut [u8], length: &mut
             *length = size;
             0
         }
-        Written::Refused(number) => {
-            *length = 0;
-            number
-        }
+        Written::Refused(number) => number,
     }
 }
 
-// Work: the outcome goes to the first 19 places.
+// Work: the result goes to the first 17 places, and its forces are the best there are: demand 3.
 #[no_mangle]
-pub extern "C" fn jinqewan_work(fields: &[u32], outcome: &mut [u64]) -> u32
-    ensures { λ r. ⌜ workTold r (now (outcome .exit)) ≡ workingInto (now (fields .entry)) (now (outcome .entry)) ⌝ }
+pub extern "C" fn jinqewan_work(fields: &[u32], result: &mut [u64]) -> u32
+    ensures equals { λ r. ⌜ answers r (now (result .exit)) ≡ workingInto (now (fields .entry)) (now (result .entry)) ⌝ }
+    ensures demand { λ r. ⌜ (r ≡ 0 → Demand3OfWords (now (fields .entry)) (now (result .exit))) ⌝ }
 {
     if fields.len() < JOINT_WORDS {
         return SHORT;
     }
-    if outcome.len() < 19 {
+    if result.len() < RESULT_WORDS {
         return SHORT;
     }
     let worked = work::work(words::joints::joint_of(fields));
-    words::outcomes::put_outcome(worked, outcome);
-    worked.refusal
+    let refusal = worked.refusal;
+    if refusal.number != 0 {
+        return refusal.number + 256 * refusal.field;
+    }
+    let face = worked.result;
+    words::results::put_result(face, result);
+    0
 }
 
-// Sheet: the lines go to the output's front and their length to `length`. Without room for all of them those that fit stand there, and
-// the length is 0.
+// Sheet: the lines go to the output's front and their length to `length`.
 #[no_mangle]
 pub extern "C" fn jinqewan_sheet(input: &[u8], output: &mut [u8], length: &mut usize) -> u32
-    ensures { λ r. ⌜ record { number = r; output = now (output .exit); count = now (length .exit) } ≡ sheetingInto (now (input .entry)) (now (output .entry)) ⌝ }
+    ensures { λ r. ⌜ answers r (record { bytes = now (output .exit); size = now (length .exit) }) ≡ sheetingInto (now (input .entry)) (now (output .entry)) (now (length .entry)) ⌝ }
 {
     let printed = printer::sheet(input, output);
     match printed {
@@ -102,9 +122,6 @@ pub extern "C" fn jinqewan_sheet(input: &[u8], output: &mut [u8], length: &mut u
             *length = total;
             0
         }
-        Printed::NoRoom => {
-            *length = 0;
-            NO_ROOM
-        }
+        Printed::NoRoom => NO_ROOM,
     }
 }

@@ -1,116 +1,126 @@
 // Lines of the sheet (document 01, 'Sheet program'): what working a joint came to, and what a joint that can't be read was refused for,
-// each put whole into a lent buffer or not at all.
+// each measured, and put into a lent buffer. What is open here is so for the crate of the sheet, which shows that there is room for
+// what it puts.
 use governing::CompressionCheck;
 use items::number::digit_count;
 use items::number::put_number;
 use items::numbers_size;
 use items::put_letters;
 use items::put_numbers;
+use outcome::FaceResult;
 use outcome::Outcome;
+use outcome::Refusal;
 ghost use Prim.Native.Nat.{_+_, _≤_, min};
 ghost use mathlib.Core.Path.{_≡_};
 ghost use mathlib.Core.List.{[], _∷_, _++_, map};
-ghost use lib.Dec.{leb};
+ghost use lib.Dec.{eqb};
 ghost use lib.ListN.{length};
 ghost use Rattle.buffers.specs.Put.{Put};
 ghost use Rattle.items.specs.Digits.{decimal};
 ghost use Rattle.items.specs.Items.{spaced};
-ghost use Rattle.line.specs.Line.{checkLetter, verdictLetter, lettersOf, rowForces, resultLine, refusalLine, outcomeLine, placed, writtenTold};
+ghost use Rattle.line.specs.Line.{checkLetter, verdictLetter, lettersOf, figuresOf, rowForces};
+ghost use Rattle.line.specs.Line.{resultLine, refusalLine, refusalItems, outcomeLine};
 
-// What putting a line answers: the place after it, or that there is no room for it.
-pub enum Written {
-    Next(usize),
-    NoRoom,
-}
-
-// Puts the line of a joint that was read: its result, or the refusal by which Work turned it down.
-pub fn outcome_line(
-    buffer: &mut [u8],
-    at: usize,
-    number: u64,
-    rows: u32,
-    outcome: Outcome,
-) -> Written
-    ensures { λ r. ⌜ writtenTold r (now (buffer .exit)) ≡ placed (outcomeLine number rows outcome) at (now (buffer .entry)) ⌝ }
+// The size of the line of a joint that was read: its result, or the refusal by which Work turned it down.
+pub fn outcome_size(number: u64, rows: u32, outcome: Outcome) -> usize
+    ensures { λ r. ⌜ r ≡ length (outcomeLine number rows outcome) ⌝ }
 {
     let refusal = outcome.refusal;
-    if refusal == 0 {
-        return result_line(buffer, at, number, rows, outcome);
+    if refusal.number == 0 {
+        let result = outcome.result;
+        return result_size(number, rows, result);
     }
-    if refusal == 10 {
-        let told = [10, outcome.field as u64];
-        return told_line(buffer, at, number, &told);
-    }
-    refusal_line(buffer, at, number, refusal)
+    work_refusal_size(number, refusal)
 }
 
-// Puts the line of a joint that can't be read.
-pub fn refusal_line(buffer: &mut [u8], at: usize, number: u64, refusal: u32) -> Written
-    ensures { λ r. ⌜ writtenTold r (now (buffer .exit)) ≡ placed (refusalLine number (refusal ∷ [])) at (now (buffer .entry)) ⌝ }
+// Puts that line, and answers the place after it.
+pub fn put_outcome(buffer: &mut [u8], at: usize, number: u64, rows: u32, outcome: Outcome) -> usize
+    requires { ⌜ at + length (outcomeLine number rows outcome) ≤ length (now buffer) ⌝ }
+    ensures { λ r. ⌜ Put (now (buffer .entry)) at (outcomeLine number rows outcome) (now (buffer .exit)) r ⌝ }
 {
-    let told = [refusal as u64];
-    told_line(buffer, at, number, &told)
-}
-
-// Puts the line of a refusal that tells these numbers.
-fn told_line(buffer: &mut [u8], at: usize, number: u64, told: &[u64]) -> Written
-    requires { ⌜ length (now told) ≤ 2 ⌝ }
-    ensures { λ r. ⌜ writtenTold r (now (buffer .exit)) ≡ placed (refusalLine number (now (told .entry))) at (now (buffer .entry)) ⌝ }
-{
-    let size = digit_count(number) + numbers_size(told) + 3;
-    if has_room(buffer.len(), at, size) {
-        return Written::Next(put_refusal(buffer, at, number, told));
+    let refusal = outcome.refusal;
+    if refusal.number == 0 {
+        let result = outcome.result;
+        return put_result(buffer, at, number, rows, result);
     }
-    Written::NoRoom
+    put_work_refusal(buffer, at, number, refusal)
 }
 
-// Whether so many bytes fit into a buffer from a place on.
-fn has_room(end: usize, at: usize, size: usize) -> bool
-    ensures { λ r. ⌜ r ≡ leb (at + size) end ⌝ }
+// The size of the line of a joint that can't be read.
+pub fn read_refusal_size(number: u64, refusal: u32) -> usize
+    ensures { λ r. ⌜ r ≡ length (refusalLine number (refusal ∷ [])) ⌝ }
 {
-    if end < at {
-        return false;
-    }
-    size <= end - at
+    let items = [refusal as u64];
+    refusal_size(number, &items)
 }
 
-fn put_refusal(buffer: &mut [u8], from: usize, number: u64, told: &[u64]) -> usize
-    requires { ⌜ from + length (refusalLine number (now told)) ≤ length (now buffer) ⌝ }
-    ensures { λ r. ⌜ Put (now (buffer .entry)) from (refusalLine number (now (told .entry))) (now (buffer .exit)) r ⌝ }
+// Puts that line, and answers the place after it.
+pub fn put_read_refusal(buffer: &mut [u8], at: usize, number: u64, refusal: u32) -> usize
+    requires { ⌜ at + length (refusalLine number (refusal ∷ [])) ≤ length (now buffer) ⌝ }
+    ensures { λ r. ⌜ Put (now (buffer .entry)) at (refusalLine number (refusal ∷ [])) (now (buffer .exit)) r ⌝ }
+{
+    let printed = [refusal as u64];
+    put_refusal(buffer, at, number, &printed)
+}
+
+// ---- refusals
+
+// The field is shown for 10 alone.
+fn shows_field(refusal: Refusal) -> bool
+    ensures { λ r. ⌜ r ≡ eqb (refusal .number) 10 ⌝ }
+{
+    refusal.number == 10
+}
+
+fn work_refusal_size(number: u64, refusal: Refusal) -> usize
+    ensures { λ r. ⌜ r ≡ length (refusalLine number (refusalItems refusal)) ⌝ }
+{
+    if shows_field(refusal) {
+        let items = [refusal.number as u64, refusal.field as u64];
+        return refusal_size(number, &items);
+    }
+    read_refusal_size(number, refusal.number)
+}
+
+fn put_work_refusal(buffer: &mut [u8], at: usize, number: u64, refusal: Refusal) -> usize
+    requires { ⌜ at + length (refusalLine number (refusalItems refusal)) ≤ length (now buffer) ⌝ }
+    ensures { λ r. ⌜ Put (now (buffer .entry)) at (refusalLine number (refusalItems refusal)) (now (buffer .exit)) r ⌝ }
+{
+    if shows_field(refusal) {
+        let printed = [refusal.number as u64, refusal.field as u64];
+        return put_refusal(buffer, at, number, &printed);
+    }
+    put_read_refusal(buffer, at, number, refusal.number)
+}
+
+// The size of the line of a refusal that shows these numbers; the 3 are R, its space and the line feed.
+fn refusal_size(number: u64, items: &[u64]) -> usize
+    requires { ⌜ length (now items) ≤ 2 ⌝ }
+    ensures { λ r. ⌜ r ≡ length (refusalLine number (now (items .entry))) ⌝ }
+{
+    digit_count(number) + numbers_size(items) + 3
+}
+
+fn put_refusal(buffer: &mut [u8], from: usize, number: u64, items: &[u64]) -> usize
+    requires { ⌜ from + length (refusalLine number (now items)) ≤ length (now buffer) ⌝ }
+    ensures { λ r. ⌜ Put (now (buffer .entry)) from (refusalLine number (now (items .entry))) (now (buffer .exit)) r ⌝ }
 {
     let mark = [b'R'];
     let after_number = put_number(buffer, from, number);
     let after_mark = put_letters(buffer, after_number, &mark);
-    let end = put_numbers(buffer, after_mark, told);
+    let end = put_numbers(buffer, after_mark, items);
     buffer[end] = b'\n';
     end + 1
 }
 
-// Puts the line of a joint that isn't refused.
-fn result_line(buffer: &mut [u8], at: usize, number: u64, rows: u32, outcome: Outcome) -> Written
-    ensures { λ r. ⌜ writtenTold r (now (buffer .exit)) ≡ placed (resultLine number rows outcome) at (now (buffer .entry)) ⌝ }
-{
-    if result_fits(buffer.len(), at, number, rows, outcome) {
-        return Written::Next(put_result(buffer, at, number, rows, outcome));
-    }
-    Written::NoRoom
-}
+// ---- results
 
-// Whether the line fits into a buffer from a place on. No line is longer than 283 bytes, so only the last ones have to be measured.
-fn result_fits(end: usize, at: usize, number: u64, rows: u32, outcome: Outcome) -> bool
-    ensures { λ r. ⌜ r ≡ leb (at + length (resultLine number rows outcome)) end ⌝ }
+// The 11 are five letters with their spaces, and the line feed.
+fn result_size(number: u64, rows: u32, result: FaceResult) -> usize
+    ensures { λ r. ⌜ r ≡ length (resultLine number rows result) ⌝ }
 {
-    if has_room(end, at, 283) {
-        return true;
-    }
-    has_room(end, at, result_size(number, rows, outcome))
-}
-
-fn result_size(number: u64, rows: u32, outcome: Outcome) -> usize
-    ensures { λ r. ⌜ r ≡ length (resultLine number rows outcome) ⌝ }
-{
-    let forces = outcome.forces;
-    let figures = [outcome.sum, outcome.newton_metres, outcome.cap];
+    let forces = result.forces;
+    let figures = figures_of(result);
     digit_count(number) + rows_size(rows, forces) + numbers_size(&figures) + 11
 }
 
@@ -128,13 +138,13 @@ fn shown(rows: u32) -> usize
     if rows < 8 { rows as usize } else { 8 }
 }
 
-fn put_result(buffer: &mut [u8], from: usize, number: u64, rows: u32, outcome: Outcome) -> usize
-    requires { ⌜ from + length (resultLine number rows outcome) ≤ length (now buffer) ⌝ }
-    ensures { λ r. ⌜ Put (now (buffer .entry)) from (resultLine number rows outcome) (now (buffer .exit)) r ⌝ }
+fn put_result(buffer: &mut [u8], from: usize, number: u64, rows: u32, result: FaceResult) -> usize
+    requires { ⌜ from + length (resultLine number rows result) ≤ length (now buffer) ⌝ }
+    ensures { λ r. ⌜ Put (now (buffer .entry)) from (resultLine number rows result) (now (buffer .exit)) r ⌝ }
 {
-    let forces = outcome.forces;
-    let figures = [outcome.sum, outcome.newton_metres, outcome.cap];
-    let letters = letters_of(outcome);
+    let forces = result.forces;
+    let figures = figures_of(result);
+    let letters = letters_of(result);
     let after_rows = put_rows(buffer, from, number, rows, forces);
     let after_figures = put_numbers(buffer, after_rows, &figures);
     let after_letters = put_letters(buffer, after_figures, &letters);
@@ -154,12 +164,19 @@ fn put_rows(buffer: &mut [u8], from: usize, number: u64, rows: u32, forces: [u64
     put_numbers(buffer, after_rows, &forces[..count])
 }
 
-// The letters of the governing check and the verdicts.
-fn letters_of(outcome: Outcome) -> [u8; 5]
-    ensures { λ r. ⌜ r ≡ lettersOf outcome ⌝ }
+// The figures after the forces.
+fn figures_of(result: FaceResult) -> [u64; 3]
+    ensures { λ r. ⌜ r ≡ figuresOf result ⌝ }
 {
-    let check = outcome.check;
-    let verdicts = outcome.verdicts;
+    [result.sum, result.newton_metres, result.cap]
+}
+
+// The letters of the governing check and the verdicts.
+fn letters_of(result: FaceResult) -> [u8; 5]
+    ensures { λ r. ⌜ r ≡ lettersOf result ⌝ }
+{
+    let check = result.check;
+    let verdicts = result.verdicts;
     [
         check_letter(check),
         verdict_letter(verdicts.bending),

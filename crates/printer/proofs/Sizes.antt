@@ -1,4 +1,4 @@
--- How long a sheet can be: a file has at least 30 bytes, so there are at most 2184 joints and the line of one refusal, each line of at
+-- How long a sheet can be: a file has at least 30 bytes, so there is at most a line for each 30 bytes and one for the rest, each of at
 -- most 283 bytes. So 618355 bytes hold any sheet. Assumes nothing.
 use Prim.Native.Nat.{ℕ, zero, suc, _+_, _*_, _≤_}
 use mathlib.Core.Path.{_≡_, refl}
@@ -18,14 +18,15 @@ use Rattle.jointfile.specs.File.{readJoint}
 use Rattle.numbers.specs.Run.{storedAll}
 use Rattle.jointfile.specs.Write.{fileOf, file}
 use Rattle.numbers.proofs.Sizes.{groups-positive}
-use Rattle.jointfile.proofs.RoundTrip.{writes-again}
+use Rattle.numbers.proofs.RunCodec.{bytes-left}
+use Rattle.jointfile.proofs.RoundTrip.{Took, writes-again}
 use Rattle.items.specs.Digits.{digits}
 use Rattle.items.specs.Items.{spaced}
 use Rattle.line.proofs.Lines.{refusal-short, outcome-short}
 use Rattle.work.specs.Work.{worked}
-use Rattle.printer.specs.Sheet.{lineThen, linesWithin, linesOf, overLong, sheetLines, concatenated, sheetOf, whole, printing}
+use Rattle.printer.specs.Sheet.{lineThen, linesWithin, linesOf, overLong, sheetLines, concatenated, sheetOf}
+use Rattle.printer.specs.Answers.{whole, printing, mostPrinted}
 use Rattle.buffers.specs.Put.{atFront}
-use Rattle.printer.proofs.Walk.{bytes-left}
 
 storedAll-long : (xs : List ℕ) → length xs ≤ length (storedAll xs)
 unfolding storedAll
@@ -36,10 +37,9 @@ some-row : (rows : ℕ) → within rowCounts rows ≡ true → 1 ≤ rows
 some-row rows count = leb-true 1 rows (and-eq-true-iff (leb 1 rows) (leb rows 8) .0 count .0)
 
 -- 29 fields and a lever take a byte each, or more
-pub file-size : (bytes : List ℕ) (joint : Joint) (left : List ℕ) → Bytes bytes → readJoint bytes ≡ got joint left → length left + 30 ≤ length bytes
+file-size : (bytes : List ℕ) (joint : Joint) (left : List ℕ) → Took bytes joint left → length left + 30 ≤ length bytes
 unfolding fileOf fieldsOf
-file-size bytes joint left all e =
-    let took = writes-again bytes joint left all e in
+file-size bytes joint left took =
     let rows = joint .face .rows in
     let levers = joint .face .levers in
     rw (← took .form, length-append (file joint) left)
@@ -62,7 +62,8 @@ lines-few (suc most) number (byte ∷ bytes) all = go (lines-few most (number + 
         → (outcome : Parse Joint) → readJoint (byte ∷ bytes) ≡ outcome
         → 30 * length (lineThen (linesWithin most (number + 1)) number outcome) ≤ length (byte ∷ bytes) + 29
     go few (got joint left) e =
-        omega (arith, few left (bytes-left (byte ∷ bytes) joint left all e), file-size (byte ∷ bytes) joint left all e)
+        let took = writes-again (byte ∷ bytes) joint left all e in
+        omega (arith, few left (bytes-left (file joint) left (byte ∷ bytes) (took .form) all), file-size (byte ∷ bytes) joint left took)
     go few (refused r) e = omega arith
 
 lines-short : (most number : ℕ) (bytes : List ℕ)
@@ -79,6 +80,10 @@ lines-short (suc most) number (byte ∷ bytes) = go (lines-short most (number + 
         rw length-append (omega (arith, short left, outcome-short number (joint .face .rows) (worked joint)))
     go short (refused r) = rw length-append (omega (arith, refusal-short number (r ∷ []) (omega arith)))
 
+-- the lines of so many bytes are no longer than `mostPrinted` says
+pub lines-size : (bytes : List ℕ) → Bytes bytes → length (concatenated (linesOf 1 bytes)) ≤ mostPrinted (length bytes)
+lines-size bytes all = omega (arith, lines-short (length bytes) 1 bytes, lines-few (length bytes) 1 bytes all)
+
 over-long-size : length (concatenated (overLong ∷ [])) ≡ 4
 unfolding concatenated spaced digits
 over-long-size = refl
@@ -90,12 +95,11 @@ sheet-size bytes all = go (ltb 65536 (length bytes)) refl
   where
     go : (t : Bool) → ltb 65536 (length bytes) ≡ t → length (concatenated (cond t (overLong ∷ []) (linesOf 1 bytes))) ≤ 618355
     go true e = omega (arith, over-long-size)
-    go false e =
-        omega (arith, lines-short (length bytes) 1 bytes, lines-few (length bytes) 1 bytes all, ltb-false 65536 (length bytes) e)
+    go false e = omega (arith, lines-size bytes all, ltb-false 65536 (length bytes) e)
 
 -- So a buffer of that many bytes never runs out: the whole sheet stands at its front.
 pub sheet-whole : (bytes buffer : List ℕ) → Bytes bytes → 618355 ≤ length buffer
-    → printing (sheetLines bytes) buffer ≡ whole (length (sheetOf bytes)) (atFront (sheetOf bytes) buffer)
+    → printing (sheetOf bytes) buffer ≡ whole (length (sheetOf bytes)) (atFront (sheetOf bytes) buffer)
 unfolding printing
 sheet-whole bytes buffer all room =
     rw (le-leb (length (sheetOf bytes)) (length buffer) (omega (arith, sheet-size bytes all)))

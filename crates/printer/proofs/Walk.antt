@@ -1,61 +1,55 @@
 -- Walking the input: the lines of bytes that aren't all read are the line of what `read` answers of them, and the lines from the place
 -- after it on. The bound on the count of lines never tells, since each joint takes bytes. Assumes nothing.
 use Prim.Native.Nat.{ℕ, zero, suc, _+_, _≤_, _<_}
-use mathlib.Core.Path.{_≡_, refl, ap, _∙_, subst}
+use mathlib.Core.Path.{_≡_, refl, ap, _∙_}
 use mathlib.Core.List.{List, [], _∷_}
 use mathlib.Core.Bool.{Bool, true, false}
 use native.Mathlib.Omega.{arith}
 use borrow.Author.Tests.{eqb-true, eqb-false, eq-eqb, ne-eqb, lt-ltb, le-ltb}
 use lib.Dec.{eqb}
 use lib.ListN.{length, drop}
-use lib.Seq.{getD-drop}
 use Rattle.joint.specs.declared.Joint.{Joint}
 use Rattle.numbers.specs.Parse.{Parse, got, refused}
-use Rattle.numbers.specs.Number.{Bytes}
 use Rattle.jointfile.specs.File.{readJoint, answer, reading, leftOf, restOf}
 use Rattle.jointfile.specs.declared.Reading.{Reading}
-use Rattle.jointfile.proofs.Places.{next-left, left-shorter, read-taken, read-refused}
+use Rattle.jointfile.proofs.Ends.{joint-shorter}
+use Rattle.jointfile.proofs.Places.{next-left, read-taken, read-refused}
 use Rattle.line.specs.Line.{refusalLine}
-use Rattle.printer.specs.Sheet.{Line, jointLine, lineThen, linesWithin, linesOf, overLong, sheetLines, readingLine}
-
-pub bytes-drop : (bytes : List ℕ) (k : ℕ) → Bytes bytes → Bytes (drop k bytes)
-bytes-drop bytes k all i = rw (getD-drop k bytes i 0) (all (k + i))
-
-pub bytes-left : (bytes : List ℕ) (joint : Joint) (left : List ℕ) → Bytes bytes → readJoint bytes ≡ got joint left → Bytes left
-bytes-left bytes joint left all e = subst Bytes (next-left bytes all ∙ ap leftOf e) (bytes-drop bytes (reading bytes .next) all)
+use Rattle.printer.specs.Sheet.{Line, jointLine, lineThen, linesWithin, linesOf, overLong, sheetLines}
+use Rattle.printer.specs.Answers.{readingLine}
 
 -- any bound that the count of bytes keeps gives the same lines
-lines-same : (most most′ number : ℕ) (bytes : List ℕ) → Bytes bytes → length bytes ≤ most → length bytes ≤ most′
+lines-same : (most most′ number : ℕ) (bytes : List ℕ) → length bytes ≤ most → length bytes ≤ most′
     → linesWithin most number bytes ≡ linesWithin most′ number bytes
 unfolding linesWithin
-lines-same zero zero number [] all h h′ = refl
-lines-same zero (suc most′) number [] all h h′ = refl
-lines-same (suc most) zero number [] all h h′ = refl
-lines-same (suc most) (suc most′) number [] all h h′ = refl
-lines-same zero most′ number (byte ∷ bytes) all h h′ = absurd (omega arith)
-lines-same (suc most) zero number (byte ∷ bytes) all h h′ = absurd (omega arith)
-lines-same (suc most) (suc most′) number (byte ∷ bytes) all h h′ =
+lines-same zero zero number [] h h′ = refl
+lines-same zero (suc most′) number [] h h′ = refl
+lines-same (suc most) zero number [] h h′ = refl
+lines-same (suc most) (suc most′) number [] h h′ = refl
+lines-same zero most′ number (byte ∷ bytes) h h′ = absurd (omega arith)
+lines-same (suc most) zero number (byte ∷ bytes) h h′ = absurd (omega arith)
+lines-same (suc most) (suc most′) number (byte ∷ bytes) h h′ =
     go (lines-same most most′ (number + 1)) (readJoint (byte ∷ bytes)) refl
   where
-    go : ((left : List ℕ) → Bytes left → length left ≤ most → length left ≤ most′
+    go : ((left : List ℕ) → length left ≤ most → length left ≤ most′
         → linesWithin most (number + 1) left ≡ linesWithin most′ (number + 1) left)
         → (outcome : Parse Joint) → readJoint (byte ∷ bytes) ≡ outcome
         → lineThen (linesWithin most (number + 1)) number outcome ≡ lineThen (linesWithin most′ (number + 1)) number outcome
     go same (got joint left) e =
-        let shorter = left-shorter (byte ∷ bytes) joint left all e in
+        let shorter = joint-shorter (byte ∷ bytes) joint left e in
         ap (λ (lines : List Line). jointLine number joint ∷ lines)
-        (same left (bytes-left (byte ∷ bytes) joint left all e) (omega arith) (omega arith))
+        (same left (omega arith) (omega arith))
     go same (refused r) e = refl
 
 pub lines-none : (number : ℕ) → linesOf number [] ≡ []
 unfolding linesWithin
 lines-none number = refl
 
-pub lines-next : (number : ℕ) (bytes : List ℕ) → Bytes bytes → 0 < length bytes
+pub lines-next : (number : ℕ) (bytes : List ℕ) → 0 < length bytes
     → linesOf number bytes ≡ readingLine number (reading bytes) ∷ linesOf (number + 1) (drop (reading bytes .next) bytes)
 unfolding linesWithin readingLine
-lines-next number [] all some = absurd (omega arith)
-lines-next number (byte ∷ bytes) all some = go (eqb (reading input .refusal) 0) refl
+lines-next number [] some = absurd (omega arith)
+lines-next number (byte ∷ bytes) some = go (eqb (reading input .refusal) 0) refl
   where
     input : List ℕ
     input = byte ∷ bytes
@@ -70,22 +64,22 @@ lines-next number (byte ∷ bytes) all some = go (eqb (reading input .refusal) 0
         let taken = read-taken input (eqb-true (reading input .refusal) 0 e) in
         let joint = reading input .joint in
         let left = restOf input in
-        let shorter = left-shorter input joint left all taken in
+        let shorter = joint-shorter input joint left taken in
         ap (lineThen others number) taken
-        ∙ rw (next-left input all, e)
+        ∙ rw (next-left input, e)
         (ap (λ (lines : List Line). jointLine number joint ∷ lines)
-        (lines-same (length bytes) (length left) (number + 1) left (bytes-left input joint left all taken) (omega arith) (omega arith)))
+        (lines-same (length bytes) (length left) (number + 1) left (omega arith) (omega arith)))
     go false e =
         let turned = read-refused input (eqb-false (reading input .refusal) 0 e) in
-        let none : drop (reading input .next) input ≡ [] = next-left input all ∙ ap leftOf turned in
+        let none : drop (reading input .next) input ≡ [] = next-left input ∙ ap leftOf turned in
         ap (lineThen others number) turned ∙ rw (none, e)
 
 -- a place after what was read
-pub next-positive : (bytes : List ℕ) → Bytes bytes → 0 < length bytes → 0 < reading bytes .next
-next-positive bytes all some = go (readJoint bytes) refl
+pub next-positive : (bytes : List ℕ) → 0 < length bytes → 0 < reading bytes .next
+next-positive bytes some = go (readJoint bytes) refl
   where
     go : (outcome : Parse Joint) → readJoint bytes ≡ outcome → 0 < answer (length bytes) outcome .next
-    go (got joint left) e = let shorter = left-shorter bytes joint left all e in omega arith
+    go (got joint left) e = let shorter = joint-shorter bytes joint left e in omega arith
     go (refused r) e = some
 
 -- ---- the line of what was read, case by case

@@ -1,3 +1,4 @@
--- What a sheet is, as a definition on bytes.
--- Assumes nothing.
+-- `Sheet` states document 01: what a sheet is, as a definition on bytes. `Answers` serves the code: what each answer means, and how long
+-- a sheet can be. Assumes nothing.
 pub mod Sheet
+pub mod Answers

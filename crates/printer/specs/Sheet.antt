@@ -1,21 +1,16 @@
--- The sheet (document 01, 'Sheet program') as a definition on bytes: joint files end to end in, lines out; and what putting the sheet into
--- a lent buffer comes to. Assumes nothing.
-use Prim.Native.Nat.{ℕ, zero, suc, _+_, _-_}
+-- The sheet (document 01, 'Sheet program') as a definition on bytes: joint files end to end in, lines out. Assumes nothing.
+use Prim.Native.Nat.{ℕ, zero, suc, _+_}
 use mathlib.Core.List.{List, [], _∷_, _++_}
 use mathlib.Core.Bool.{cond}
-use lib.Dec.{leb, ltb, eqb}
+use lib.Dec.{ltb}
 use lib.ListN.{length}
 use Rattle.joint.specs.declared.Joint.{Joint}
 use Rattle.numbers.specs.Parse.{Parse, got, refused}
-use Rattle.buffers.specs.Put.{atFront}
 use Rattle.jointfile.specs.File.{readJoint}
-use Rattle.jointfile.specs.declared.Reading.{Reading}
 use Rattle.items.specs.Digits.{decimal}
 use Rattle.items.specs.Items.{letter}
 use Rattle.line.specs.Line.{lineOf, refusalLine, outcomeLine}
 use Rattle.work.specs.Work.{worked}
-use Rattle.printer.specs.declared.Printed.{Printed}
-use Rattle.printer.specs.declared.Printed.the-variants.{Length, NoRoom}
 
 abbrev pub Line : Type 0
 Line = List ℕ
@@ -55,34 +50,3 @@ concatenated (line ∷ lines) = line ++ concatenated lines
 -- The sheet's bytes.
 abbrev pub sheetOf : (bytes : List ℕ) → List ℕ
 sheetOf bytes = concatenated (sheetLines bytes)
-
--- ---- into a lent buffer
-
--- the lines from the first on that fit whole into so much room, up to the first that doesn't
-unfoldable pub fitting : (room : ℕ) → List Line → List Line
-fitting room [] = []
-fitting room (line ∷ lines) = cond (leb (length line) room) (line ∷ fitting (room - length line) lines) []
-
--- what printing gives: the count of bytes, or that there is no room for all of them; and the buffer at exit
-pub data Printing : Type 0 where
-  whole : (size : ℕ) (buffer : List ℕ) → Printing
-  cut : (buffer : List ℕ) → Printing
-
--- All lines where they fit, and else those that do.
-unfoldable pub printing : List Line → (buffer : List ℕ) → Printing
-printing lines buffer =
-    cond (leb (length (concatenated lines)) (length buffer))
-    (whole (length (concatenated lines)) (atFront (concatenated lines) buffer))
-    (cut (atFront (concatenated (fitting (length buffer) lines)) buffer))
-
--- What each case of the enum `Printed` says, with the buffer at exit.
-abbrev pub printedTold : Printed → List ℕ → Printing
-printedTold (Length size) buffer = whole size buffer
-printedTold NoRoom buffer = cut buffer
-
--- ---- from what `read` answers
-
--- the line of a joint by `read`'s answer
-unfoldable pub readingLine : (number : ℕ) → Reading → Line
-readingLine number reading =
-    cond (eqb (reading .refusal) 0) (jointLine number (reading .joint)) (refusalLine number (reading .refusal ∷ []))

@@ -1,17 +1,24 @@
 // The sheet (document 01, 'Sheet program'): joint files end to end in, a line for each out. Each joint is read once, worked once and put
-// straight into the caller's buffer; the input is walked by the place after each joint.
+// straight into the caller's buffer; the input is walked by the place after each joint. Only where the output may be too short are the
+// lines measured first, since such an output stays as it was.
 use jointfile::Reading;
 use jointfile::read;
-use line::Written;
-use line::outcome_line;
-use line::refusal_line;
+use line::outcome_size;
+use line::put_outcome;
+use line::put_read_refusal;
+use line::read_refusal_size;
 use work::work;
-ghost use Prim.Native.Nat.{_≤_};
+ghost use Prim.Native.Nat.{_+_, _≤_};
 ghost use mathlib.Core.Path.{_≡_};
-ghost use lib.ListN.{length};
-ghost use Rattle.line.specs.Line.{placed, writtenTold};
-ghost use Rattle.printer.specs.Sheet.{linesOf, overLong, sheetLines, printing, printedTold, readingLine};
 ghost use mathlib.Core.List.{[], _∷_};
+ghost use lib.Dec.{leb};
+ghost use lib.ListN.{length};
+ghost use Rattle.buffers.specs.Put.{Put};
+ghost use Rattle.printer.specs.Sheet.{linesOf, overLong, concatenated, sheetOf};
+ghost use Rattle.printer.specs.Answers.{printing, printedMeaning, mostPrinted, readingLine};
+
+// Joints count from 1.
+const FIRST: u64 = 1;
 
 // What printing answers: the count of bytes at the buffer's front, or that there is no room for all lines.
 pub enum Printed {
@@ -19,20 +26,19 @@ pub enum Printed {
     NoRoom,
 }
 
-// Prints the sheet of the input to the front of the output. Where a line doesn't fit the lines before it stand there, and past them the
-// output is as it was.
+// Prints the sheet of the input to the front of the output. Where it doesn't fit whole, the output is as it was.
 pub fn sheet(input: &[u8], output: &mut [u8]) -> Printed
-    ensures { λ r. ⌜ printedTold r (now (output .exit)) ≡ printing (sheetLines (now (input .entry))) (now (output .entry)) ⌝ }
+    ensures { λ r. ⌜ printedMeaning r (now (output .exit)) ≡ printing (sheetOf (now (input .entry))) (now (output .entry)) ⌝ }
 {
     if 65536 < input.len() {
-        return over_long(output);
+        return print_over_long(output);
     }
     print_joints(input, output)
 }
 
 // `R 4`, and nothing else.
-fn over_long(output: &mut [u8]) -> Printed
-    ensures { λ r. ⌜ printedTold r (now (output .exit)) ≡ printing (overLong ∷ []) (now (output .entry)) ⌝ }
+fn print_over_long(output: &mut [u8]) -> Printed
+    ensures { λ r. ⌜ printedMeaning r (now (output .exit)) ≡ printing (concatenated (overLong ∷ [])) (now (output .entry)) ⌝ }
 {
     if output.len() < 4 {
         return Printed::NoRoom;
@@ -44,34 +50,89 @@ fn over_long(output: &mut [u8]) -> Printed
     Printed::Length(4)
 }
 
-// A joint that can't be read is the last: the place after it is the input's end. The bound keeps the joints' count in range.
 fn print_joints(input: &[u8], output: &mut [u8]) -> Printed
     requires { ⌜ length (now input) ≤ 65536 ⌝ }
-    ensures { λ r. ⌜ printedTold r (now (output .exit)) ≡ printing (linesOf 1 (now (input .entry))) (now (output .entry)) ⌝ }
+    ensures { λ r. ⌜ printedMeaning r (now (output .exit)) ≡ printing (concatenated (linesOf 1 (now (input .entry)))) (now (output .entry)) ⌝ }
+{
+    if has_room(input, output.len()) {
+        let size = put_joints(input, output);
+        return Printed::Length(size);
+    }
+    Printed::NoRoom
+}
+
+// Whether so many places hold the lines. Only an output that is shorter than the longest sheet of so many bytes asks for measuring.
+fn has_room(input: &[u8], room: usize) -> bool
+    requires { ⌜ length (now input) ≤ 65536 ⌝ }
+    ensures { λ r. ⌜ r ≡ leb (length (concatenated (linesOf 1 (now (input .entry))))) room ⌝ }
+{
+    if most_printed(input.len()) <= room {
+        return true;
+    }
+    lines_size(input) <= room
+}
+
+// No sheet of so many bytes is longer: a file has at least 30 bytes, and a line at most 283.
+fn most_printed(count: usize) -> usize
+    requires { ⌜ count ≤ 65536 ⌝ }
+    ensures { λ r. ⌜ r ≡ mostPrinted count ⌝ }
+{
+    (count + 29) / 30 * 283
+}
+
+// The size of all lines. The bound keeps the joints' count in range, here and in `put_joints`.
+fn lines_size(input: &[u8]) -> usize
+    requires { ⌜ length (now input) ≤ 65536 ⌝ }
+    ensures { λ r. ⌜ r ≡ length (concatenated (linesOf 1 (now (input .entry)))) ⌝ }
 {
     let mut from = 0;
-    let mut number: u64 = 1;
-    let mut at = 0;
+    let mut number = FIRST;
+    let mut size: usize = 0;
     while from < input.len() {
         let reading = read(&input[from..]);
-        let line = joint_line(output, at, number, reading);
-        let Written::Next(next) = line else {
-            return Printed::NoRoom;
-        };
-        at = next;
+        size += line_size(number, reading);
         from += reading.next;
         number += 1;
     }
-    Printed::Length(at)
+    size
 }
 
-// Puts the line of what was read.
-fn joint_line(output: &mut [u8], at: usize, number: u64, reading: Reading) -> Written
-    ensures { λ r. ⌜ writtenTold r (now (output .exit)) ≡ placed (readingLine number reading) at (now (output .entry)) ⌝ }
+// Puts all lines, and answers their size. A joint that can't be read is the last: the place after it is the input's end.
+fn put_joints(input: &[u8], output: &mut [u8]) -> usize
+    requires { ⌜ (length (now input) ≤ 65536) × (length (concatenated (linesOf 1 (now input))) ≤ length (now output)) ⌝ }
+    ensures { λ r. ⌜ Put (now (output .entry)) 0 (concatenated (linesOf 1 (now (input .entry)))) (now (output .exit)) r ⌝ }
+{
+    let mut from = 0;
+    let mut number = FIRST;
+    let mut at = 0;
+    while from < input.len() {
+        let reading = read(&input[from..]);
+        at = put_line(output, at, number, reading);
+        from += reading.next;
+        number += 1;
+    }
+    at
+}
+
+// The size of the line of what was read.
+fn line_size(number: u64, reading: Reading) -> usize
+    ensures { λ r. ⌜ r ≡ length (readingLine number reading) ⌝ }
 {
     if reading.refusal == 0 {
         let joint = reading.joint;
-        return outcome_line(output, at, number, joint.face.rows, work(joint));
+        return outcome_size(number, joint.face.rows, work(joint));
     }
-    refusal_line(output, at, number, reading.refusal)
+    read_refusal_size(number, reading.refusal)
+}
+
+// Puts that line, and answers the place after it.
+fn put_line(output: &mut [u8], at: usize, number: u64, reading: Reading) -> usize
+    requires { ⌜ at + length (readingLine number reading) ≤ length (now output) ⌝ }
+    ensures { λ r. ⌜ Put (now (output .entry)) at (readingLine number reading) (now (output .exit)) r ⌝ }
+{
+    if reading.refusal == 0 {
+        let joint = reading.joint;
+        return put_outcome(output, at, number, joint.face.rows, work(joint));
+    }
+    put_read_refusal(output, at, number, reading.refusal)
 }

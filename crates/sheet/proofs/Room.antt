@@ -8,14 +8,23 @@ use lib.ListN.{length, drop, length-append}
 use lib.Seq.{length-take-le}
 use Rattle.numbers.specs.Number.{Bytes}
 use Rattle.buffers.specs.Put.{atFront}
-use Rattle.printer.specs.Sheet.{sheetLines, sheetOf, whole, cut, printing}
+use Rattle.printer.specs.Sheet.{sheetOf}
+use Rattle.printer.specs.Answers.{whole, noRoom, printing, printedMeaning}
+use Rattle.printer.specs.declared.Printed.{Printed}
+use Rattle.printer.specs.declared.Printed.the-variants.{Length, NoRoom}
 use Rattle.printer.proofs.Sizes.{sheet-whole}
 use Rattle.sheet.specs.Whole.{Whole}
 
-module _ (input output exit : List ℕ) (all : Bytes input) (room : 618355 ≤ length output) where
-  pub whole-told : (size : ℕ) → whole size exit ≡ printing (sheetLines input) output → Whole input output exit size
-  whole-told size e =
-      let is = e ∙ sheet-whole input output all room in
+module _ (input output exit : List ℕ) (all : Bytes input) (room : 618355 ≤ length output) {printed : Printed}
+    (means : printedMeaning printed exit ≡ printing (sheetOf input) output) where
+  -- what was printed is the whole sheet
+  printed-all : {case : Printed} → printed ≡ case
+      → printedMeaning case exit ≡ whole (length (sheetOf input)) (atFront (sheetOf input) output)
+  printed-all is = sym (ap (λ (p : Printed). printedMeaning p exit) is) ∙ means ∙ sheet-whole input output all room
+
+  pub whole-printed : {size : ℕ} → printed ≡ Length size → Whole input output exit size
+  whole-printed {size} is =
+      let equal = printed-all is in
       let bytes : exit ≡ atFront (sheetOf input) output = cc in
       let long : size ≡ length (sheetOf input) = cc in
       let inside : size ≤ length exit =
@@ -23,8 +32,8 @@ module _ (input output exit : List ℕ) (all : Bytes input) (room : 618355 ≤ l
       (arith, long, ap length bytes, length-append (sheetOf input) (drop (length (sheetOf input)) output)) in
       record { bytes = bytes; all = long; counts = (inside, sym (length-take-le size exit inside)) }
 
-  pub cut-never : cut exit ≡ printing (sheetLines input) output → ⊥
-  cut-never e =
-      let is = e ∙ sheet-whole input output all room in
+  pub never-short : printed ≡ NoRoom → ⊥
+  never-short is =
+      let equal = printed-all is in
       let z : _≡_ {A = ℕ} 0 1 = cc in
       omega arith

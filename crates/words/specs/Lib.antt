@@ -1,3 +1,4 @@
--- A joint and an outcome as words. The definitions compute, and assume nothing.
+-- A joint and a face's result as the words that the exported calls lend. Document 01 says nothing of words: `Words` takes its fields in
+-- their order, `Results` its items. Assumes nothing.
 pub mod Words
-pub mod Outcomes
+pub mod Results

@@ -1,50 +1,37 @@
 -- A joint as 37 words: document 01's fields in file order, spare levers included, N by its two's complement in 32 bits.
 -- Assumes nothing.
 use Prim.Native.Nat.{ℕ, _-_}
-use mathlib.Core.List.{List, [], _∷_, _++_}
+use mathlib.Core.List.{List, _++_}
 use mathlib.Core.Bool.{cond}
 use lib.Dec.{ltb}
 use lib.IntN.{ℤ, pos, negsuc}
-use lib.ListN.{set}
-use Rattle.joint.specs.declared.Face.{Face}
+use lib.ListN.{set, take, drop}
 use Rattle.joint.specs.declared.Joint.{Joint}
-use Rattle.joint.specs.declared.Loads.{Loads}
-use Rattle.fields.specs.Fields.{field, columnOf, boltsOf, beamOf, plateOf, layoutOf, weldsOf, fieldsOf}
+use Rattle.fields.specs.Fields.{field, storedAxial, jointOf, fieldsOf}
 
--- N as a word: itself, or 2^32 more when negative. `negsuc n` is the integer -n - 1.
-unfoldable pub wordOfAxial : ℤ → ℕ
-wordOfAxial (pos n) = n
-wordOfAxial (negsuc n) = 4294967295 - n
+-- ---- the joint of words
 
--- the N that a word stands for
+-- the N that a word stands for. `negsuc n` is the integer -n - 1.
 unfoldable pub axialOfWord : ℕ → ℤ
 axialOfWord word = cond (ltb word 2147483648) (pos word) (negsuc (4294967295 - word))
 
-abbrev pub loadsOfWords : List ℕ → Loads
-loadsOfWords words = record { axial = axialOfWord (field 27 words); shear = field 28 words; moment = field 29 words }
+-- Fields 1 to 29 as the file has them: each is its word, and N is stored as the file stores it.
+unfoldable pub fieldsOfWords : List ℕ → List ℕ
+fieldsOfWords words = set (take 29 words) 26 (storedAxial (axialOfWord (field 27 words)))
 
-abbrev pub leversOfWords : List ℕ → List ℕ
-leversOfWords words =
-    field 30 words ∷ field 31 words ∷ field 32 words ∷ field 33 words
-    ∷ field 34 words ∷ field 35 words ∷ field 36 words ∷ field 37 words ∷ []
-
-abbrev pub faceOfWords : List ℕ → Face
-faceOfWords words =
-    record {
-      rows = field 1 words;
-      extended = field 2 words;
-      beam = beamOf words;
-      plate = plateOf words;
-      layout = layoutOf words;
-      welds = weldsOf words;
-      «shear_rows» = field 26 words;
-      loads = loadsOfWords words;
-      levers = leversOfWords words;
-    }
+unfoldable pub leversOfWords : List ℕ → List ℕ
+leversOfWords words = take 8 (drop 29 words)
 
 -- the joint of 37 words
-unfoldable pub jointOfWords : List ℕ → Joint
-jointOfWords words = record { column = columnOf words; bolts = boltsOf words; face = faceOfWords words }
+abbrev pub jointOfWords : List ℕ → Joint
+jointOfWords words = jointOf (fieldsOfWords words) (leversOfWords words)
+
+-- ---- the words of a joint
+
+-- N as a word: itself, or 2^32 more when negative
+unfoldable pub wordOfAxial : ℤ → ℕ
+wordOfAxial (pos n) = n
+wordOfAxial (negsuc n) = 4294967295 - n
 
 -- the words before the levers: the fields of the file, with N as a word
 unfoldable pub headOf : Joint → List ℕ

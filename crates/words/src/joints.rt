@@ -2,23 +2,52 @@
 ghost use mathlib.Core.Path.{_≡_};
 ghost use Prim.Native.Nat.{_≤_};
 ghost use lib.ListN.{length};
-ghost use Rattle.words.specs.Words.{axialOfWord, wordOfAxial, loadsOfWords, leversOfWords, faceOfWords, jointOfWords, headOf, wordsOf};
 ghost use Rattle.buffers.specs.Put.{atFront};
+ghost use Rattle.fields.specs.Fields.{storedAxial};
+ghost use Rattle.words.specs.Words.{axialOfWord, wordOfAxial, fieldsOfWords, leversOfWords, jointOfWords, headOf, wordsOf};
 use crate::put::put_eight_u32;
 use crate::put::put_u32;
-use joint::Face;
 use joint::Joint;
-use joint::Loads;
 
-// The axial force that a word stands for.
-fn axial_of(word: u32) -> i32
-    ensures { λ r. ⌜ r ≡ axialOfWord word ⌝ }
+// The number that the file stores for the axial force of a word.
+fn stored_of(word: u32) -> u32
+    ensures { λ r. ⌜ r ≡ storedAxial (axialOfWord word) ⌝ }
 {
     if word < 2147483648 {
-        word as i32
+        2 * word
     } else {
-        -1 - ((4294967295 - word) as i32)
+        2 * (4294967295 - word) + 1
     }
+}
+
+// Fields 1 to 29, as the file stores them.
+fn fields_of(words: &[u32]) -> [u32; 29]
+    requires { ⌜ 37 ≤ length (now words) ⌝ }
+    ensures { λ r. ⌜ r ≡ fieldsOfWords (now (words .entry)) ⌝ }
+{
+    let mut fields = [0u32; 29];
+    put_u32(&mut fields, 0, &words[..29]);
+    fields[26] = stored_of(words[26]);
+    fields
+}
+
+fn levers_of(words: &[u32]) -> [u32; 8]
+    requires { ⌜ 37 ≤ length (now words) ⌝ }
+    ensures { λ r. ⌜ r ≡ leversOfWords (now (words .entry)) ⌝ }
+{
+    let mut levers = [0u32; 8];
+    put_u32(&mut levers, 0, &words[29..37]);
+    levers
+}
+
+// The joint of 37 words.
+pub fn joint_of(words: &[u32]) -> Joint
+    requires { ⌜ 37 ≤ length (now words) ⌝ }
+    ensures { λ r. ⌜ r ≡ jointOfWords (now (words .entry)) ⌝ }
+{
+    let fields = fields_of(words);
+    let levers = levers_of(words);
+    fields::joint_of(fields, levers)
 }
 
 // The word of an axial force. -1 - axial is not below 0 where axial is, and can't wrap.
@@ -29,62 +58,6 @@ fn word_of(axial: i32) -> u32
         4294967295 - ((-1 - axial) as u32)
     } else {
         axial as u32
-    }
-}
-
-fn loads_of(words: &[u32]) -> Loads
-    requires { ⌜ 37 ≤ length (now words) ⌝ }
-    ensures { λ r. ⌜ r ≡ loadsOfWords (now (words .entry)) ⌝ }
-{
-    Loads {
-        axial: axial_of(words[26]),
-        shear: words[27],
-        moment: words[28],
-    }
-}
-
-fn levers_of(words: &[u32]) -> [u32; 8]
-    requires { ⌜ 37 ≤ length (now words) ⌝ }
-    ensures { λ r. ⌜ r ≡ leversOfWords (now (words .entry)) ⌝ }
-{
-    [
-        words[29],
-        words[30],
-        words[31],
-        words[32],
-        words[33],
-        words[34],
-        words[35],
-        words[36],
-    ]
-}
-
-fn face_of(words: &[u32]) -> Face
-    requires { ⌜ 37 ≤ length (now words) ⌝ }
-    ensures { λ r. ⌜ r ≡ faceOfWords (now (words .entry)) ⌝ }
-{
-    Face {
-        rows: words[0],
-        extended: words[1],
-        beam: fields::beam_of(words),
-        plate: fields::plate_of(words),
-        layout: fields::layout_of(words),
-        welds: fields::welds_of(words),
-        shear_rows: words[25],
-        loads: loads_of(words),
-        levers: levers_of(words),
-    }
-}
-
-// The joint of 37 words.
-pub fn joint_of(words: &[u32]) -> Joint
-    requires { ⌜ 37 ≤ length (now words) ⌝ }
-    ensures { λ r. ⌜ r ≡ jointOfWords (now (words .entry)) ⌝ }
-{
-    Joint {
-        column: fields::column_of(words),
-        bolts: fields::bolts_of(words),
-        face: face_of(words),
     }
 }
 

@@ -1,5 +1,5 @@
-// A joint as 37 words and back, an outcome as 19 words, and numbers copied into a lent slice. What is open here is so for the crate of
-// calls, which shows that the slices are long enough.
+// A joint as 37 words and back, a face's result as 17 words, and numbers copied into a lent slice. What is open here is so for the crate
+// of calls, which shows that the slices are long enough.
 pub mod joints;
-pub mod outcomes;
 pub mod put;
+pub mod results;

@@ -2,12 +2,12 @@
 ghost use mathlib.Core.Path.{_≡_};
 ghost use Prim.Native.Nat.{_+_, _≤_};
 ghost use lib.ListN.{length};
-ghost use lib.Seq.{paste};
+ghost use lib.Seq.{sets};
 
 // Copies the numbers to the places from `at` on.
 pub fn put_u32(slice: &mut [u32], at: usize, numbers: &[u32])
     requires { ⌜ at + length (now numbers) ≤ length (now slice) ⌝ }
-    ensures { λ _. ⌜ now (slice .exit) ≡ paste (now (slice .entry)) at (now (numbers .entry)) (length (now (numbers .entry))) ⌝ }
+    ensures { λ _. ⌜ now (slice .exit) ≡ sets (now (slice .entry)) at (now (numbers .entry)) ⌝ }
 {
     let mut done = 0;
     while done < numbers.len() {
@@ -19,7 +19,7 @@ pub fn put_u32(slice: &mut [u32], at: usize, numbers: &[u32])
 // The same, of 64 bits.
 pub fn put_u64(slice: &mut [u64], at: usize, numbers: &[u64])
     requires { ⌜ at + length (now numbers) ≤ length (now slice) ⌝ }
-    ensures { λ _. ⌜ now (slice .exit) ≡ paste (now (slice .entry)) at (now (numbers .entry)) (length (now (numbers .entry))) ⌝ }
+    ensures { λ _. ⌜ now (slice .exit) ≡ sets (now (slice .entry)) at (now (numbers .entry)) ⌝ }
 {
     let mut done = 0;
     while done < numbers.len() {
@@ -31,7 +31,7 @@ pub fn put_u64(slice: &mut [u64], at: usize, numbers: &[u64])
 // Copies the eight numbers of an array to the places from `at` on.
 pub fn put_eight_u32(slice: &mut [u32], at: usize, numbers: [u32; 8])
     requires { ⌜ at + 8 ≤ length (now slice) ⌝ }
-    ensures { λ _. ⌜ (length numbers ≡ 8) × (now (slice .exit) ≡ paste (now (slice .entry)) at numbers 8) ⌝ }
+    ensures { λ _. ⌜ (length numbers ≡ 8) × (now (slice .exit) ≡ sets (now (slice .entry)) at numbers) ⌝ }
 {
     put_u32(slice, at, &numbers);
 }
@@ -39,7 +39,7 @@ pub fn put_eight_u32(slice: &mut [u32], at: usize, numbers: [u32; 8])
 // Copies the eight numbers of an array to the places from `at` on.
 pub fn put_eight_u64(slice: &mut [u64], at: usize, numbers: [u64; 8])
     requires { ⌜ at + 8 ≤ length (now slice) ⌝ }
-    ensures { λ _. ⌜ (length numbers ≡ 8) × (now (slice .exit) ≡ paste (now (slice .entry)) at numbers 8) ⌝ }
+    ensures { λ _. ⌜ (length numbers ≡ 8) × (now (slice .exit) ≡ sets (now (slice .entry)) at numbers) ⌝ }
 {
     put_u64(slice, at, &numbers);
 }

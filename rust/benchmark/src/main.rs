@@ -4,7 +4,7 @@
 mod rounds;
 mod words;
 
-use proved::{FORCES, JOINT_WORDS, OUTCOME_WORDS};
+use proved::{longest_sheet, FORCES, JOINT_WORDS, RESULT_WORDS};
 use reference::{Joint, GROUPS, LONGEST_FILE, LONGEST_INPUT};
 use rounds::measure;
 use sample::{file_of, worked_joint, Random};
@@ -162,19 +162,19 @@ fn time_allocate(random: &mut Random) -> [f64; 3] {
 fn time_work(random: &mut Random, rows: u32) -> [f64; 3] {
     let joints: Vec<Joint> = (0..INPUTS).map(|_| worked_joint(random, rows)).collect();
     let joint_words: Vec<[u32; JOINT_WORDS]> = joints.iter().map(Joint::to_fields).collect();
-    let mut proved_outcome = [0; OUTCOME_WORDS];
-    let mut plain_outcome = [0; OUTCOME_WORDS];
+    let mut proved_result = [0; RESULT_WORDS];
+    let mut plain_result = [0; RESULT_WORDS];
     measure([
         &mut || {
             for fields in &joint_words {
-                black_box(proved::work(black_box(fields), &mut proved_outcome));
-                black_box(&proved_outcome);
+                black_box(proved::work(black_box(fields), &mut proved_result));
+                black_box(&proved_result);
             }
         },
         &mut || {
             for fields in &joint_words {
-                black_box(words::work(black_box(fields), &mut plain_outcome));
-                black_box(&plain_outcome);
+                black_box(words::work(black_box(fields), &mut plain_result));
+                black_box(&plain_result);
             }
         },
         &mut || {
@@ -196,9 +196,10 @@ fn full_input(random: &mut Random) -> Vec<u8> {
     input
 }
 
-/// Into buffers that are used again: a slice, and a vector that keeps its room.
+/// Into buffers that are used again: a slice, and a vector that keeps its room. The slice holds any sheet of so many bytes, so that the
+/// proved side prints straight, as the sheet program does; in a shorter one it would measure the lines first.
 fn time_sheet(input: &[u8]) -> [f64; 2] {
-    let mut output = vec![0; 4 * LONGEST_INPUT];
+    let mut output = vec![0; longest_sheet(input.len())];
     let mut lines = Vec::with_capacity(4 * LONGEST_INPUT);
     let mut length = 0;
     measure([

@@ -1,7 +1,7 @@
 //! One input, both answers.
 
 use crate::tally::Tally;
-use proved::{FORCES, JOINT_WORDS, NO_ROOM, OUTCOME_WORDS, SHORT};
+use proved::{longest_sheet, FORCES, JOINT_WORDS, NO_ROOM, RESULT_WORDS, SHORT};
 use reference::{Check, Joint, Outcome, WorkRefusal, LONGEST_FILE, LONGEST_INPUT};
 use sample::{any_joint, Random, Table};
 use std::fmt::Debug;
@@ -23,50 +23,54 @@ fn same<T: PartialEq + Debug>(
     ))
 }
 
-/// What a slice holds before a call, so that a stray write shows.
+/// What slices and places hold before a call: a stray write shows, and so does any write in a refusal.
 const MARK_64: u64 = 0x5a5a_5a5a_5a5a_5a5a;
 const MARK_32: u32 = 0x5a5a_5a5a;
 const MARK_8: u8 = 0x5a;
+const MARK_PLACE: usize = usize::MAX;
 
 // ---- Work
 
 pub fn compare_work(joint: &Joint, tally: &mut Tally) -> Result<(), Difference> {
     let fields = joint.to_fields();
-    let mut words = [MARK_64; OUTCOME_WORDS + 1];
+    let mut words = [MARK_64; RESULT_WORDS + 1];
     let answer = proved::work(&fields, &mut words);
     let worked = reference::work(joint);
-    let mut expected = [MARK_64; OUTCOME_WORDS + 1];
-    expected[..OUTCOME_WORDS].copy_from_slice(&outcome_words(&worked));
+    let mut expected = [MARK_64; RESULT_WORDS + 1];
+    let (number, field) = match &worked {
+        Ok(outcome) => {
+            expected[..RESULT_WORDS].copy_from_slice(&result_words(outcome));
+            (0, 0)
+        }
+        Err(refusal) => (refusal.number(), refusal.field()),
+    };
     count_worked(joint, &worked, tally);
     same(
         "work",
         &fields,
-        (answer, words),
-        (expected[0] as u32, expected),
+        (
+            answer >> 16,
+            proved::number(answer),
+            proved::field(answer),
+            words,
+        ),
+        (0, number, field, expected),
     )
 }
 
-/// Work's answer as the exported call gives it.
-fn outcome_words(worked: &Result<Outcome, WorkRefusal>) -> [u64; OUTCOME_WORDS] {
-    let mut words = [0; OUTCOME_WORDS];
-    match worked {
-        Err(refusal) => {
-            words[0] = u64::from(refusal.number());
-            words[1] = u64::from(refusal.field());
-        }
-        Ok(outcome) => {
-            words[2..10].copy_from_slice(&outcome.forces);
-            words[10] = outcome.sum;
-            words[11] = outcome.newton_metres;
-            words[12] = outcome.cap;
-            words[13] = outcome.check as u64;
-            words[14] = outcome.governing_force;
-            words[15] = u64::from(outcome.verdicts.bending);
-            words[16] = u64::from(outcome.verdicts.bolts);
-            words[17] = u64::from(outcome.verdicts.flange_weld);
-            words[18] = u64::from(outcome.verdicts.web_weld);
-        }
-    }
+/// A result as the exported call gives it.
+fn result_words(outcome: &Outcome) -> [u64; RESULT_WORDS] {
+    let mut words = [0; RESULT_WORDS];
+    words[..8].copy_from_slice(&outcome.forces);
+    words[8] = outcome.sum;
+    words[9] = outcome.newton_metres;
+    words[10] = outcome.cap;
+    words[11] = outcome.check as u64;
+    words[12] = outcome.governing_force;
+    words[13] = u64::from(outcome.verdicts.bending);
+    words[14] = u64::from(outcome.verdicts.bolts);
+    words[15] = u64::from(outcome.verdicts.flange_weld);
+    words[16] = u64::from(outcome.verdicts.web_weld);
     words
 }
 
@@ -141,12 +145,12 @@ pub fn compare_file(
     let fields = joint.to_fields();
     let size = random.below(2 * LONGEST_FILE as u64) as usize;
     let mut buffer = vec![MARK_8; size];
-    let mut length = usize::MAX;
+    let mut length = MARK_PLACE;
     let answer = proved::write(&fields, &mut buffer, &mut length);
     let mut expected = vec![MARK_8; size];
     let (number, expected_length, kind) = match reference::write(joint, &mut expected) {
         Ok(length) => (0, length, "write: file"),
-        Err(refusal) => (refusal as u32, 0, write_kind(refusal)),
+        Err(refusal) => (refusal as u32, MARK_PLACE, write_kind(refusal)),
     };
     tally.count(kind);
     same(
@@ -168,7 +172,7 @@ fn write_kind(refusal: reference::WriteRefusal) -> &'static str {
 
 fn compare_read(bytes: &[u8], tally: &mut Tally) -> Result<(), Difference> {
     let mut fields = [MARK_32; JOINT_WORDS + 1];
-    let mut next = usize::MAX;
+    let mut next = MARK_PLACE;
     let answer = proved::read(bytes, &mut fields, &mut next);
     let mut expected = [MARK_32; JOINT_WORDS + 1];
     let (number, place) = match reference::read(bytes) {
@@ -178,11 +182,10 @@ fn compare_read(bytes: &[u8], tally: &mut Tally) -> Result<(), Difference> {
             (0, bytes.len() - rest.len())
         }
         Err(refusal) => {
-            expected[..JOINT_WORDS].fill(0);
             tally.count(
                 ["read: refusal 1", "read: refusal 2", "read: refusal 3"][refusal as usize - 1],
             );
-            (refusal as u32, bytes.len())
+            (refusal as u32, MARK_PLACE)
         }
     };
     same(
@@ -211,11 +214,13 @@ pub fn compare_allocate(
     let mut forces = vec![MARK_64; size];
     let answer = proved::allocate(table.count, &table.limits, &mut forces);
     let mut expected = vec![MARK_64; size];
-    let (number, eight) = match reference::allocate(table.count, &table.limits) {
-        Ok(forces) => (0, forces),
-        Err(refusal) => (refusal as u32, [0; FORCES]),
+    let number = match reference::allocate(table.count, &table.limits) {
+        Ok(forces) => {
+            expected[..FORCES].copy_from_slice(&forces);
+            0
+        }
+        Err(refusal) => refusal as u32,
     };
-    expected[..FORCES].copy_from_slice(&eight);
     tally.count(match number {
         0 => "allocate: shared",
         3 => "allocate: refusal 3",
@@ -245,32 +250,35 @@ pub fn compare_stream(
     compare_sheet(bytes, random, tally)
 }
 
-/// The sheet into a buffer that mostly has room for it.
+/// The sheet into a buffer that mostly has room for it, and now and then more than any sheet of so many bytes takes.
 fn compare_sheet(bytes: &[u8], random: &mut Random, tally: &mut Tally) -> Result<(), Difference> {
     let mut lines = Vec::new();
     reference::sheet(bytes, &mut lines);
     count_sheet(bytes, &lines, tally);
     let spare = random.below(20) as usize;
-    let size = if random.one_in(4) {
-        random.below(lines.len() as u64 + 1) as usize
-    } else {
-        lines.len() + spare
+    let size = match random.below(4) {
+        0 => random.below(lines.len() as u64 + 1) as usize,
+        1 => longest_sheet(bytes.len()) + spare,
+        _ => lines.len() + spare,
     };
     let mut output = vec![MARK_8; size];
-    let mut length = usize::MAX;
+    let mut length = MARK_PLACE;
     let answer = proved::sheet(bytes, &mut output, &mut length);
     let mut expected = vec![MARK_8; size];
     if size < lines.len() {
         tally.count("sheet: no room");
-        let whole = whole_lines(&lines[..size]);
-        expected[..whole].copy_from_slice(&lines[..whole]);
         return same(
             "sheet",
             &(bytes, size),
             (answer, length, output),
-            (NO_ROOM, 0, expected),
+            (NO_ROOM, MARK_PLACE, expected),
         );
     }
+    tally.count(if size < longest_sheet(bytes.len()) {
+        "sheet: measured first"
+    } else {
+        "sheet: printed straight"
+    });
     expected[..lines.len()].copy_from_slice(&lines);
     same(
         "sheet",
@@ -278,14 +286,6 @@ fn compare_sheet(bytes: &[u8], random: &mut Random, tally: &mut Tally) -> Result
         (answer, length, output),
         (0, lines.len(), expected),
     )
-}
-
-/// Bytes of the lines that are whole.
-fn whole_lines(lines: &[u8]) -> usize {
-    lines
-        .iter()
-        .rposition(|&byte| byte == b'\n')
-        .map_or(0, |place| place + 1)
 }
 
 fn count_sheet(bytes: &[u8], lines: &[u8], tally: &mut Tally) {
@@ -323,41 +323,41 @@ pub fn compare_short(random: &mut Random, tally: &mut Tally) -> Result<(), Diffe
     let file = sample::file_of(&joint);
     let mut words = vec![MARK_32; random.below(JOINT_WORDS as u64) as usize];
     let untouched = words.clone();
-    let mut next = 77;
+    let mut next = MARK_PLACE;
     let answer = proved::read(&file, &mut words, &mut next);
     same(
         "short read",
         &(&file, words.len()),
         (answer, &words, next),
-        (SHORT, &untouched, 77),
+        (SHORT, &untouched, MARK_PLACE),
     )?;
 
     tally.count("short: write");
     let mut buffer = [MARK_8; LONGEST_FILE];
-    let mut length = 77;
+    let mut length = MARK_PLACE;
     let answer = proved::write(few_fields, &mut buffer, &mut length);
     same(
         "short write",
         &few_fields,
         (answer, buffer, length),
-        (SHORT, [MARK_8; LONGEST_FILE], 77),
+        (SHORT, [MARK_8; LONGEST_FILE], MARK_PLACE),
     )?;
 
     tally.count("short: work");
-    let mut outcome = [MARK_64; OUTCOME_WORDS];
-    let answer = proved::work(few_fields, &mut outcome);
+    let mut result = [MARK_64; RESULT_WORDS];
+    let answer = proved::work(few_fields, &mut result);
     same(
         "short work",
         &few_fields,
-        (answer, outcome),
-        (SHORT, [MARK_64; OUTCOME_WORDS]),
+        (answer, result),
+        (SHORT, [MARK_64; RESULT_WORDS]),
     )?;
-    let places = random.below(OUTCOME_WORDS as u64) as usize;
-    let answer = proved::work(&fields, &mut outcome[..places]);
+    let places = random.below(RESULT_WORDS as u64) as usize;
+    let answer = proved::work(&fields, &mut result[..places]);
     same(
         "short work",
         &(fields, places),
-        (answer, outcome),
-        (SHORT, [MARK_64; OUTCOME_WORDS]),
+        (answer, result),
+        (SHORT, [MARK_64; RESULT_WORDS]),
     )
 }

@@ -4,7 +4,7 @@ use std::collections::BTreeMap;
 use std::fmt;
 
 /// What a run of full size has to reach.
-const KINDS: [&str; 43] = [
+const KINDS: [&str; 45] = [
     "allocate: refusal 3",
     "allocate: refusal 7",
     "allocate: refusal 8",
@@ -15,8 +15,10 @@ const KINDS: [&str; 43] = [
     "read: refusal 3",
     "sheet: R 4",
     "sheet: ended by a read refusal",
+    "sheet: measured first",
     "sheet: no room",
     "sheet: nothing",
+    "sheet: printed straight",
     "sheet: to the end of the input",
     "short: allocate",
     "short: read",

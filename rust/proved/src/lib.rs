@@ -1,17 +1,33 @@
-//! The proved calls. A joint is 37 words of 32 bits, document 01's fields in file order, N by its two's complement. Answers are
-//! document 01's refusal numbers, 0 for none, and `SHORT` where a lent slice can't hold a joint or an answer.
+//! The proved calls. A joint is 37 words of 32 bits, document 01's fields in file order, N by its two's complement. Each call but `rest`
+//! answers 0 where it did what it is for, and else one number that tells why not (`number`, `field`); then every slice and place that was
+//! lent is as it was.
 
 /// Words of a joint.
 pub const JOINT_WORDS: usize = 37;
 /// Places of Allocate's answer.
 pub const FORCES: usize = 8;
-/// Words of Work's answer: refusal, field, eight forces, sum, newton metres, cap, check (0 to 3 for F, B, K, S), governing force,
-/// and 1 or 0 for bending, bolts, flange weld and web weld.
-pub const OUTCOME_WORDS: usize = 19;
-/// A lent slice is too short; nothing is written.
+/// Words of a result: eight forces, sum, newton metres, cap, check (0 to 3 for F, B, K, S), governing force, and 1 or 0 for bending,
+/// bolts, flange weld and web weld.
+pub const RESULT_WORDS: usize = 17;
+/// A lent slice is too short.
 pub const SHORT: u32 = 100;
-/// The sheet's output has no room for all lines: those that fit stand there.
+/// The sheet's output has no room for all lines.
 pub const NO_ROOM: u32 = 101;
+
+/// Document 01's refusal number in an answer.
+pub const fn number(answer: u32) -> u32 {
+    answer & 255
+}
+
+/// The field in an answer, with refusal 10.
+pub const fn field(answer: u32) -> u32 {
+    answer >> 8 & 255
+}
+
+/// No sheet of so many bytes is longer. In an output that is shorter the lines are measured before they are printed.
+pub const fn longest_sheet(input: usize) -> usize {
+    (input + 29) / 30 * 283
+}
 
 mod c {
     extern "C" {
@@ -40,8 +56,8 @@ mod c {
         pub fn jinqewan_work(
             fields: *const u32,
             fields_length: usize,
-            outcome: *mut u64,
-            outcome_length: usize,
+            result: *mut u64,
+            result_length: usize,
         ) -> u32;
         pub fn jinqewan_sheet(
             input: *const u8,
@@ -94,13 +110,13 @@ pub fn write(fields: &[u32], buffer: &mut [u8], length: &mut usize) -> u32 {
     }
 }
 
-pub fn work(fields: &[u32], outcome: &mut [u64]) -> u32 {
+pub fn work(fields: &[u32], result: &mut [u64]) -> u32 {
     unsafe {
         c::jinqewan_work(
             fields.as_ptr(),
             fields.len(),
-            outcome.as_mut_ptr(),
-            outcome.len(),
+            result.as_mut_ptr(),
+            result.len(),
         )
     }
 }

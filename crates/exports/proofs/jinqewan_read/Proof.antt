@@ -1,15 +1,46 @@
--- `jinqewan_read` meets its contract: the slice is too short for a joint, or the words of `read`'s joint are its front.
+-- `jinqewan_read` meets its contract: the slice is too short for a joint, `read` refuses, or the words of its joint are the slice's front.
 -- Assumes nothing.
-use Rattle.exports.proofs.Calls.{read-short, read-answer}
+use mathlib.Core.Path.{_≡_, sym, ap, _∙_}
+use borrow.Author.Tests.{lt-leb, le-leb}
+use denote.Ref.{now}
+use Rattle.jointfile.specs.File.{reading}
+use Rattle.jointfile.specs.declared.Reading.{Reading}
+use Rattle.exports.specs.Calls.{JointPlace, jointPut}
+use Rattle.exports.proofs.Answers.{too-short, taken, refused}
 use borrow.Author.Needs.{needs}
 use Rattle.exports.proofs.jinqewan_read.Statement.{statement}
 use Rattle.exports.proofs.jinqewan_read.Tie as tie
 
+-- ---- the places of the walk, each a step from the one before it
+
+abbrev start : tie.After-slice-known → tie.Start
+start c = c .before .before
+
+abbrev long-enough : tie.After-read → tie.Else1
+long-enough c = c .before
+
+abbrev begin : tie.After-read → tie.Start
+begin c = start (long-enough c .before)
+
+abbrev was-read : tie.After-put-joint → tie.Else2
+was-read c = c .before .before
+
+-- ---- the needs
+
 returns : tie.Need-returns
-returns c = read-short _ _ _ (c .if1 .taken)
+returns c = too-short _ _ _ _ (lt-leb 37 _ (c .if1 .taken))
 
 read-requires : tie.Need-read-requires
 read-requires c κs = search needs
+
+-- the refusal is the definition's
+same-refusal : (c : tie.After-read) → c .read .result .refusal ≡ reading (now (begin c .args .bytes)) .refusal
+same-refusal c = ap (λ (r : Reading). r .refusal) (c .read .ensures)
+
+returns-2 : tie.Need-returns-2
+returns-2 c =
+    let call = c .before .before in
+    refused _ _ _ (le-leb 37 _ (long-enough call .if1 .left)) (same-refusal call) (c .if2 .taken)
 
 put-joint-requires : tie.Need-put-joint-requires
 put-joint-requires c κs = search needs
@@ -17,12 +48,17 @@ put-joint-requires c κs = search needs
 same-length : tie.Need-same-length
 same-length c = search needs
 
-returns-2 : tie.Need-returns-2
-returns-2 c =
+returns-3 : tie.Need-returns-3
+returns-3 c =
     let put = c .before .before in
-    let call = put .before .before in
-    read-answer _ _ _ (call .before .if1 .left) (call .read .ensures) (put .put-joint .ensures)
+    let call = was-read put .before .before in
+    let words = now (begin call .args .fields) in
+    let placed : _≡_ {A = JointPlace} (record { words = put .put-joint .last .1 .0; next = call .read .result .next }) (jointPut (call .read .result) words) =
+    λ i. record { words = put .put-joint .ensures i; next = call .read .result .next } in
+    taken _ 0 _ _ (le-leb 37 _ (long-enough call .if1 .left)) (sym (same-refusal call) ∙ was-read put .if2 .left)
+    (placed ∙ ap (λ (r : Reading). jointPut r words) (call .read .ensures))
 
 pub jinqewan-read-spec : {M : Type 1} → statement M
 jinqewan-read-spec =
-    tie.close (tie.spec returns read-requires put-joint-requires same-length returns-2)
+    tie.close
+    (tie.spec returns read-requires returns-2 put-joint-requires same-length returns-3)

@@ -6,7 +6,6 @@ use mathlib.Core.List.{List}
 use native.Mathlib.Omega.{arith}
 use lib.ListN.{length}
 use denote.Ref.{now}
-use Rattle.numbers.specs.Number.{Bytes}
 use Rattle.exports.proofs.Calls.{rest-within, rest-next}
 use borrow.Author.Needs.{needs}
 use Rattle.exports.proofs.jinqewan_rest.Statement.{statement}
@@ -15,14 +14,11 @@ use Rattle.exports.proofs.jinqewan_rest.Tie as tie
 abbrev lent : tie.After-rest → List ℕ
 lent c = now (c .before .before .args .bytes)
 
-bytes : (c : tie.After-rest) → Bytes (lent c)
-bytes c = λ k. c .before .shared-slice-known .given k .fits
-
 rest-requires : tie.Need-rest-requires
 rest-requires c κs = search needs
 
 sub-result : tie.Need-sub-result
-sub-result c = omega (arith, ap length (c .rest .ensures), rest-within (lent c) (bytes c))
+sub-result c = omega (arith, ap length (c .rest .ensures), rest-within (lent c))
 
 returns : tie.Need-returns
 returns c = ap (λ (left : List ℕ). length (lent c) - length left) (c .rest .ensures) ∙ rest-next (lent c)

@@ -4,6 +4,9 @@ use borrow.Author.Needs.{needs}
 use Rattle.exports.proofs.jinqewan_sheet.Statement.{statement}
 use Rattle.exports.proofs.jinqewan_sheet.Tie as tie
 
+abbrev printed : tie.After-slice-known2 → tie.After-sheet
+printed c = c .before .before
+
 sheet-requires : tie.Need-sheet-requires
 sheet-requires c κs = search needs
 
@@ -17,13 +20,13 @@ same-length : tie.Need-same-length
 same-length c = search needs
 
 returns : tie.Need-returns
-returns c = sheet-answer _ _ _ (c .before .printed .given .1) (c .before .before .before .before .before .sheet .ensures)
+returns c = sheet-answer _ _ _ _ (c .before .printed .given .1) (printed (c .before .before .before) .sheet .ensures)
 
 same-length-2 : tie.Need-same-length-2
 same-length-2 c = search needs
 
 returns-2 : tie.Need-returns-2
-returns-2 c = sheet-answer _ _ _ (c .enum-told .given .1) (c .before .before .before .before .sheet .ensures)
+returns-2 c = sheet-answer _ _ _ _ (c .enum-told .given .1) (printed (c .before .before) .sheet .ensures)
 
 pub jinqewan-sheet-spec : {M : Type 1} → statement M
 jinqewan-sheet-spec =

@@ -1,15 +1,74 @@
--- `jinqewan_work` meets its contract: a slice is too short, or the words of `work`'s outcome are the front of the other.
--- Assumes nothing.
-use Rattle.exports.proofs.Calls.{work-few, work-short, work-answer}
+-- `jinqewan_work` meets its contract: a slice is too short, `work` refuses, or the words of its result are the front of the other slice, and
+-- demand 3 holds of them. Assumes nothing.
+use Prim.Native.Nat.{ℕ, _≤_}
+use mathlib.Core.Path.{_≡_, sym, ap, _∙_}
+use mathlib.Core.Bool.{true, _&&_}
+use native.Mathlib.Omega.{arith}
+use borrow.Author.Tests.{lt-leb, le-leb}
+use denote.Ref.{now}
+use lib.Dec.{leb}
+use lib.ListN.{length}
+use Rattle.buffers.specs.Put.{atFront}
+use Rattle.outcome.specs.declared.Outcome.{Outcome}
+use Rattle.work.specs.Work.{worked}
+use Rattle.words.specs.Words.{jointOfWords}
+use Rattle.words.specs.Results.{resultWords}
+use Rattle.exports.specs.Answers.{answerNumber}
+use Rattle.exports.proofs.Answers.{too-short, turned-down, taken}
+use Rattle.exports.proofs.Calls.{Small, refusal-small, demand-words}
 use borrow.Author.Needs.{needs}
 use Rattle.exports.proofs.jinqewan_work.Statement.{statement}
 use Rattle.exports.proofs.jinqewan_work.Tie as tie
 
+-- ---- the places of the walk, each a step from the one before it
+
+abbrev start : tie.After-slice-known → tie.Start
+start c = c .before .before
+
+abbrev words-enough : tie.Else2 → tie.Else1
+words-enough c = c .before
+
+abbrev long-enough : tie.After-work → tie.Else2
+long-enough c = c .before .before
+
+abbrev begin : tie.After-work → tie.Start
+begin c = start (words-enough (long-enough c) .before)
+
+abbrev worked-at : tie.After-struct-known → tie.After-work
+worked-at c = c .before .before
+
+abbrev refused-at : tie.After-struct-known2 → tie.After-work
+refused-at c = worked-at (c .before .before)
+
+abbrev passed : tie.After-put-result → tie.Else3
+passed c = c .before .before .before
+
+-- ---- what `work` answered
+
+long-both : (c : tie.After-work)
+    → let args = begin c .args in
+    (leb 37 (length (now (args .fields))) && leb 17 (length (now (args .result)))) ≡ true
+long-both c =
+    let second = long-enough c in
+    simp (le-leb 37 _ (words-enough second .if1 .left), le-leb 17 _ (second .if2 .left))
+
+same-outcome : (c : tie.After-work) → c .work .result ≡ worked (jointOfWords (now (begin c .args .fields)))
+same-outcome c = c .work .ensures .0 ∙ ap worked (c .before .joint-of .ensures)
+
+small : (c : tie.After-work) → Small (c .work .result .refusal)
+small c =
+    refusal-small (now (begin c .args .fields)) (words-enough (long-enough c) .if1 .left) (c .before .joint-of .ensures) (c .work .ensures .0)
+
+-- ---- the needs
+
 returns : tie.Need-returns
-returns c = work-few _ _ (c .if1 .taken)
+returns c = (too-short _ _ _ _ (simp (lt-leb 37 _ (c .if1 .taken))), λ none. absurd (omega (arith, none)))
 
 returns-2 : tie.Need-returns-2
-returns-2 c = work-short _ _ (c .before .if1 .left) (c .if2 .taken)
+returns-2 c = (
+  too-short _ _ _ _ (simp (le-leb 37 _ (c .before .if1 .left), lt-leb 17 _ (c .if2 .taken))),
+  λ none. absurd (omega (arith, none)),
+)
 
 joint-of-requires : tie.Need-joint-of-requires
 joint-of-requires c κs = search needs
@@ -17,18 +76,43 @@ joint-of-requires c κs = search needs
 work-requires : tie.Need-work-requires
 work-requires c κs = search needs
 
-put-outcome-requires : tie.Need-put-outcome-requires
-put-outcome-requires c κs = search needs
+mul-result : tie.Need-mul-result
+mul-result c = omega (arith, small (refused-at c) .field)
+
+add-result : tie.Need-add-result
+add-result c =
+    let parts = small (refused-at (c .before)) in
+    omega (arith, parts .number, parts .field)
+
+returns-3 : tie.Need-returns-3
+returns-3 c =
+    let call = refused-at (c .before) in
+    let some = c .before .before .if3 .taken in
+    let same = same-outcome call in (
+      turned-down _ _ _ _ (long-both call) (λ none. some (ap (λ (o : Outcome). o .refusal .number) same ∙ none))
+          (ap (λ (o : Outcome). answerNumber (o .refusal .number) (o .refusal .field)) same),
+      λ none. absurd (some (omega (arith, none))),
+    )
+
+put-result-requires : tie.Need-put-result-requires
+put-result-requires c κs = search needs
 
 same-length : tie.Need-same-length
 same-length c = search needs
 
-returns-3 : tie.Need-returns-3
-returns-3 c =
+returns-4 : tie.Need-returns-4
+returns-4 c =
     let put = c .before .before in
-    let joint = put .before .before .before in
-    work-answer _ _ (joint .before .before .if1 .left) (joint .before .if2 .left) (joint .joint-of .ensures)
-    (put .before .before .work .ensures .0) (put .put-outcome .ensures)
+    let none = passed put .if3 .left in
+    let call = worked-at (passed put .before) in
+    let same = same-outcome call in
+    let words = now (begin call .args .result) in
+    let front = put .put-result .ensures .1 in (
+      taken _ _ _ _ (long-both call) (sym (ap (λ (o : Outcome). o .refusal .number) same) ∙ none)
+          (front ∙ ap (λ (o : Outcome). atFront (resultWords (o .result)) words) same),
+      λ zero. demand-words (now (begin call .args .fields)) words (call .work .result) (call .before .joint-of .ensures)
+          (put .put-result .ensures .0) front (call .work .ensures .1 none),
+    )
 
 pub jinqewan-work-spec : {M : Type 1} → statement M
 jinqewan-work-spec =
@@ -38,6 +122,9 @@ jinqewan-work-spec =
     returns-2
     joint-of-requires
     work-requires
-    put-outcome-requires
+    mul-result
+    add-result
+    returns-3
+    put-result-requires
     same-length
-    returns-3)
+    returns-4)

@@ -1,12 +1,27 @@
 -- `jinqewan_write` meets its contract: the slice is too short for a joint, or each case of `write`'s answer says what the definition does.
 -- Assumes nothing.
-use Rattle.exports.proofs.Calls.{write-short, write-taken}
+use borrow.Author.Tests.{lt-leb}
+use Rattle.exports.proofs.Answers.{too-short}
+use Rattle.exports.proofs.Calls.{write-put, write-refused}
 use borrow.Author.Needs.{needs}
 use Rattle.exports.proofs.jinqewan_write.Statement.{statement}
 use Rattle.exports.proofs.jinqewan_write.Tie as tie
 
+-- ---- the places of the walk, each a step from the one before it
+
+abbrev long-enough : tie.After-joint-of → tie.Else1
+long-enough c = c .before
+
+abbrev joint-known : tie.After-write → tie.After-joint-of
+joint-known c = c .before .before
+
+abbrev written : tie.After-slice-known2 → tie.After-write
+written c = c .before .before
+
+-- ---- the needs
+
 returns : tie.Need-returns
-returns c = write-short _ _ _ (c .if1 .taken)
+returns c = too-short _ _ _ _ (lt-leb 37 _ (c .if1 .taken))
 
 joint-of-requires : tie.Need-joint-of-requires
 joint-of-requires c κs = search needs
@@ -25,18 +40,18 @@ same-length c = search needs
 
 returns-2 : tie.Need-returns-2
 returns-2 c =
-    let call = c .before .before .before .before .before in
-    let joint = call .before .before in
-    write-taken _ _ _ (joint .before .if1 .left) _ (c .before .written .given .1) (rw (joint .joint-of .ensures) at (call .write .ensures))
+    let call = written (c .before .before .before) in
+    let joint = joint-known call in
+    write-put _ _ _ (long-enough joint .if1 .left) (joint .joint-of .ensures) _ (call .write .ensures) (c .before .written .given .1)
 
 same-length-2 : tie.Need-same-length-2
 same-length-2 c = search needs
 
 returns-3 : tie.Need-returns-3
 returns-3 c =
-    let call = c .before .before .before .before .before in
-    let joint = call .before .before in
-    write-taken _ _ _ (joint .before .if1 .left) _ (c .before .written2 .given .1) (rw (joint .joint-of .ensures) at (call .write .ensures))
+    let call = written (c .before .before .before) in
+    let joint = joint-known call in
+    write-refused _ _ _ (long-enough joint .if1 .left) (joint .joint-of .ensures) _ (call .write .ensures) (c .before .written2 .given .1)
 
 pub jinqewan-write-spec : {M : Type 1} → statement M
 jinqewan-write-spec =

@@ -1,13 +1,13 @@
 -- `put_result` meets its contract: the rows, the figures, the letters and the line feed are put one after the other. Assumes nothing.
-use Prim.Native.Nat.{_+_, _≤_}
-use mathlib.Core.List.{[], _∷_, _++_}
+use Prim.Native.Nat.{ℕ, _+_, _≤_}
+use mathlib.Core.List.{List, [], _∷_, _++_}
 use native.Mathlib.Omega.{arith}
 use denote.Ref.{now}
 use lib.ListN.{length}
 use Rattle.buffers.specs.Put.{Put}
 use Rattle.buffers.proofs.Puts.{put-both, put-byte, put-length, room-first, room-after}
-use Rattle.items.specs.Digits.{decimal}
 use Rattle.items.specs.Items.{letter}
+use Rattle.items.specs.Digits.{decimal}
 use Rattle.items.proofs.Items.{items}
 use Rattle.line.specs.Line.{lettersOf, figuresOf}
 use Rattle.line.proofs.Lines.{opening, result-parts}
@@ -15,63 +15,125 @@ use borrow.Author.Needs.{needs}
 use Rattle.line.proofs.put_result.Statement.{statement}
 use Rattle.line.proofs.put_result.Tie as tie
 
+-- ---- the places of the walk, each a step from the one before it
+
+abbrev start : tie.After-figures-of → tie.Start
+start c = c .before .before .before
+
+abbrev letters-known : tie.After-put-rows → tie.After-letters-of
+letters-known c = c .before .before
+
+abbrev rows-put : tie.After-put-numbers-arg → tie.After-put-rows
+rows-put c = c .before .before .before
+
+abbrev before-figures : tie.After-put-numbers → tie.After-put-numbers-arg
+before-figures c = c .before .before
+
+abbrev figures-put : tie.After-put-letters-arg → tie.After-put-numbers
+figures-put c = c .before .before .before
+
+abbrev before-letters : tie.After-put-letters → tie.After-put-letters-arg
+before-letters c = c .before .before
+
+abbrev letters-put : tie.After-slice-known4 → tie.After-put-letters
+letters-put c = c .before .before
+
+-- the start, from each place on the way
+abbrev rows-start : tie.After-put-rows → tie.Start
+rows-start c = start (letters-known c .before)
+
+abbrev figures-start : tie.After-put-numbers → tie.Start
+figures-start c = rows-start (rows-put (before-figures c))
+
+abbrev letters-start : tie.After-put-letters → tie.Start
+letters-start c = figures-start (figures-put (before-letters c))
+
+-- ---- what is left to put has room, place by place
+
+abbrev letters-end : tie.Start → List ℕ
+letters-end s = items letter (lettersOf (s .args .result)) ++ (10 ∷ [])
+
+room-whole : (s : tie.Start)
+    → s .args .from
+    + length
+    (opening (s .args .number) (s .args .rows) (s .args .result .forces) ++ (items decimal (figuresOf (s .args .result)) ++ letters-end s))
+    ≤ length (now (s .args .buffer))
+room-whole s = rw (result-parts (s .args .number) (s .args .rows) (s .args .result)) at (s .pre)
+
+room-figures : (c : tie.After-put-rows)
+    → c .put-rows .result + length (items decimal (figuresOf (rows-start c .args .result)) ++ letters-end (rows-start c))
+    ≤ length (c .put-rows .last .0)
+room-figures c = room-after _ (c .put-rows .ensures) (room-whole (rows-start c))
+
+-- the figures that were put are the line's
+figured : (c : tie.After-put-numbers)
+    → let rows = rows-put (before-figures c) in
+    Put (rows .put-rows .last .0) (rows .put-rows .result) (items decimal (figuresOf (figures-start c .args .result)))
+    (c .put-numbers .last .0) (c .put-numbers .result)
+figured c = rw (letters-known (rows-put (before-figures c)) .before .figures-of .ensures) at (c .put-numbers .ensures)
+
+room-letters : (c : tie.After-put-numbers)
+    → c .put-numbers .result + length (letters-end (figures-start c)) ≤ length (c .put-numbers .last .0)
+room-letters c = room-after _ (figured c) (room-figures (rows-put (before-figures c)))
+
+-- the letters that were put are the line's
+lettered : (c : tie.After-put-letters)
+    → Put (figures-put (before-letters c) .put-numbers .last .0) (figures-put (before-letters c) .put-numbers .result)
+    (items letter (lettersOf (letters-start c .args .result))) (c .put-letters .last .0) (c .put-letters .result)
+lettered c =
+    let figures = figures-put (before-letters c) in
+    rw (letters-known (rows-put (before-figures figures)) .letters-of .ensures) at (c .put-letters .ensures)
+
+room-end : (c : tie.After-put-letters) → c .put-letters .result + 1 ≤ length (c .put-letters .last .0)
+room-end c = room-after (10 ∷ []) (lettered c) (room-letters (figures-put (before-letters c)))
+
+-- ---- the needs
+
+figures-of-requires : tie.Need-figures-of-requires
+figures-of-requires c κs = search needs
+
 letters-of-requires : tie.Need-letters-of-requires
 letters-of-requires c κs = search needs
 
--- the line's parts have room together
-whole : (start : tie.Start)
-    → start .args .from
-    + length
-    (opening (start .args .number) (start .args .rows) (start .args .outcome .forces)
-    ++ (items decimal (figuresOf (start .args .outcome)) ++ (items letter (lettersOf (start .args .outcome)) ++ (10 ∷ []))))
-    ≤ length (now (start .args .buffer))
-whole start = rw (result-parts (start .args .number) (start .args .rows) (start .args .outcome)) at (start .pre)
-
 put-rows-requires : tie.Need-put-rows-requires
 put-rows-requires c κs =
-    let start = c .before .before .before .before in
-    room-first (opening (start .args .number) (start .args .rows) (start .args .outcome .forces)) _ (start .args .from) _ (whole start)
+    let s = start (c .before .before) in
+    room-first (opening (s .args .number) (s .args .rows) (s .args .result .forces)) _ _ _ (room-whole s)
 
 slice-aggregate-put-numbers : tie.Need-slice-aggregate-put-numbers
 slice-aggregate-put-numbers c = search needs
 
 put-numbers-requires : tie.Need-put-numbers-requires
 put-numbers-requires c κs =
-    let start = c .before .before .before .before .before .before .before .before .before in
-    room-first (items decimal (figuresOf (start .args .outcome))) _ (c .before .before .before .before .put-rows .result) _ (room-after _ (c .before .before .before .before .put-rows .ensures) (whole start))
+    let rows = rows-put (c .before) in
+    rw (letters-known rows .before .figures-of .ensures)
+    (room-first (items decimal (figuresOf (rows-start rows .args .result))) _ _ _ (room-figures rows))
 
 slice-aggregate-put-letters : tie.Need-slice-aggregate-put-letters
 slice-aggregate-put-letters c = search needs
 
 put-letters-requires : tie.Need-put-letters-requires
 put-letters-requires c κs =
-    let start = c .before .before .before .before .before .before .before .before .before .before .before .before .before .before in
-    rw (c .before .before .before .before .before .before .before .before .before .before .before .letters-of .ensures)
-    (room-first (items letter (lettersOf (start .args .outcome))) (10 ∷ []) (c .before .before .before .before .put-numbers .result) _
-    (room-after _ (c .before .before .before .before .put-numbers .ensures) (room-after _ (c .before .before .before .before .before .before .before .before .before .put-rows .ensures) (whole start))))
-
-lettered : (c : tie.After-slice-known4)
-    → Put (c .before .before .before .before .before .before .before .put-numbers .last .0) (c .before .before .before .before .before .before .before .put-numbers .result) (items letter (lettersOf (c .before .before .before .before .before .before .before .before .before .before .before .before .before .before .before .before .before .args .outcome)))
-    (c .before .before .put-letters .last .0) (c .before .before .put-letters .result)
-lettered c = rw (c .before .before .before .before .before .before .before .before .before .before .before .before .before .before .letters-of .ensures) at (c .before .before .put-letters .ensures)
-
--- and so has the line feed
-last : (c : tie.After-slice-known4) → c .before .before .put-letters .result + 1 ≤ length (c .before .before .put-letters .last .0)
-last c =
-    room-after (10 ∷ []) (lettered c)
-    (room-after _ (c .before .before .before .before .before .before .before .put-numbers .ensures) (room-after _ (c .before .before .before .before .before .before .before .before .before .before .before .before .put-rows .ensures) (whole (c .before .before .before .before .before .before .before .before .before .before .before .before .before .before .before .before .before))))
+    let figures = figures-put (c .before) in
+    rw (letters-known (rows-put (before-figures figures)) .letters-of .ensures)
+    (room-first (items letter (lettersOf (figures-start figures .args .result))) (10 ∷ []) _ _ (room-letters figures))
 
 slice-write-buffer : tie.Need-slice-write-buffer
-slice-write-buffer c = omega (arith, last c)
+slice-write-buffer c = omega (arith, room-end (letters-put c))
 
 add-result : tie.Need-add-result
-add-result c = omega (arith, last c, c .before .before .put-letters .kept .0, c .before .before .before .before .before .before .before .before .before .before .before .before .before .before .before .before .before .good)
+add-result c =
+    let letters = letters-put c in
+    omega (arith, room-end letters, letters .put-letters .kept .0, letters-start letters .good)
 
 returns : tie.Need-returns
 returns c =
-    let args = c .before .before .before .before .before .before .before .before .before .before .before .before .before .before .before .before .before .args in
-    rw (result-parts (args .number) (args .rows) (args .outcome))
-    (put-both (c .before .before .before .before .before .before .before .before .before .before .before .before .put-rows .ensures) (put-both (c .before .before .before .before .before .before .before .put-numbers .ensures) (put-both (lettered c) (put-byte _ _ 10))))
+    let letters = letters-put c in
+    let figures = figures-put (before-letters letters) in
+    let args = letters-start letters .args in
+    rw (result-parts (args .number) (args .rows) (args .result))
+    (put-both (rows-put (before-figures figures) .put-rows .ensures)
+    (put-both (figured figures) (put-both (lettered letters) (put-byte _ _ 10))))
 
 same-length : tie.Need-same-length
 same-length c = put-length (returns c)
@@ -80,6 +142,7 @@ pub put-result-spec : {M : Type 1} → statement M
 put-result-spec =
     tie.close
     (tie.spec
+    figures-of-requires
     letters-of-requires
     put-rows-requires
     slice-aggregate-put-numbers

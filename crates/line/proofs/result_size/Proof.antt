@@ -1,5 +1,5 @@
 -- `result_size` meets its contract: the parts of the line, measured. Assumes nothing.
-use Prim.Native.Nat.{_+_}
+use Prim.Native.Nat.{_+_, _≤_}
 use mathlib.Core.Path.{_≡_}
 use lib.ListN.{length}
 use Rattle.line.specs.Line.{resultLine}
@@ -9,17 +9,42 @@ use borrow.Author.Needs.{needs}
 use Rattle.line.proofs.result_size.Statement.{statement}
 use Rattle.line.proofs.result_size.Tie as tie
 
+-- ---- the places of the walk, each a step from the one before it
+
+abbrev figures-known : tie.After-rows-size → tie.After-figures-of
+figures-known c = c .before .before
+
+abbrev start : tie.After-rows-size → tie.Start
+start c = figures-known c .before .before
+
+abbrev rows-measured : tie.After-numbers-size → tie.After-rows-size
+rows-measured c = c .before .before
+
+-- ---- the needs
+
+figures-of-requires : tie.Need-figures-of-requires
+figures-of-requires c κs = search needs
+
 digit-count-requires : tie.Need-digit-count-requires
 digit-count-requires c κs = search needs
 
 rows-size-requires : tie.Need-rows-size-requires
 rows-size-requires c κs = search needs
 
+-- the first two parts are no longer than the line
+two-parts : (c : tie.After-rows-size) → c .before .digit-count .result + c .rows-size .result ≤ 283
+two-parts c =
+    let args = start c .args in
+    omega (
+      arith,
+      c .before .digit-count .ensures,
+      c .rows-size .ensures,
+      result-size (args .number) (args .rows) (args .result),
+      result-short (args .number) (args .rows) (args .result),
+    )
+
 add-result : tie.Need-add-result
-add-result c =
-    let args = c .before .before .before .args in
-    let line = result-size (args .number) (args .rows) (args .outcome) in
-    omega (arith, c .before .digit-count .ensures, c .rows-size .ensures, line, result-short (args .number) (args .rows) (args .outcome))
+add-result c = omega (arith, two-parts c)
 
 slice-aggregate-numbers-size : tie.Need-slice-aggregate-numbers-size
 slice-aggregate-numbers-size c = search needs
@@ -28,25 +53,27 @@ numbers-size-requires : tie.Need-numbers-size-requires
 numbers-size-requires c κs = search needs
 
 measured : (c : tie.After-numbers-size)
-    → c .before .before .before .digit-count .result + c .before .before .rows-size .result + c .numbers-size .result + 11
-    ≡ length
-    (resultLine (c .before .before .before .before .before .args .number) (c .before .before .before .before .before .args .rows)
-    (c .before .before .before .before .before .args .outcome))
+    → let args = start (rows-measured c) .args in
+    rows-measured c .before .digit-count .result + rows-measured c .rows-size .result + c .numbers-size .result + 11
+    ≡ length (resultLine (args .number) (args .rows) (args .result))
 measured c =
-    let args = c .before .before .before .before .before .args in
+    let rows = rows-measured c in
+    let args = start rows .args in
     omega (
       arith,
-      c .before .before .before .digit-count .ensures,
-      c .before .before .rows-size .ensures,
-      c .numbers-size .ensures,
-      result-size (args .number) (args .rows) (args .outcome),
+      rows .before .digit-count .ensures,
+      rows .rows-size .ensures,
+      rw (figures-known rows .figures-of .ensures) at (c .numbers-size .ensures),
+      result-size (args .number) (args .rows) (args .result),
     )
 
-add-result-2 : tie.Need-add-result-2
-add-result-2 c = let args = c .before .before .before .before .before .args in omega (arith, measured c, result-short (args .number) (args .rows) (args .outcome))
-
 add-result-3 : tie.Need-add-result-3
-add-result-3 c = let args = c .before .before .before .before .before .args in omega (arith, measured c, result-short (args .number) (args .rows) (args .outcome))
+add-result-3 c =
+    let args = start (rows-measured c) .args in
+    omega (arith, measured c, result-short (args .number) (args .rows) (args .result))
+
+add-result-2 : tie.Need-add-result-2
+add-result-2 c = let all = add-result-3 c in omega arith
 
 returns : tie.Need-returns
 returns c = measured c
@@ -55,6 +82,7 @@ pub result-size-spec : {M : Type 1} → statement M
 result-size-spec =
     tie.close
     (tie.spec
+    figures-of-requires
     digit-count-requires
     rows-size-requires
     add-result

@@ -12,6 +12,16 @@ use borrow.Author.Needs.{needs}
 use Rattle.line.proofs.rows_size.Statement.{statement}
 use Rattle.line.proofs.rows_size.Tie as tie
 
+-- ---- the places of the walk, each a step from the one before it
+
+abbrev start : tie.After-digit-count → tie.Start
+start c = c .before .before
+
+abbrev count-measured : tie.After-numbers-size → tie.After-digit-count
+count-measured c = c .before .before
+
+-- ---- the needs
+
 shown-requires : tie.Need-shown-requires
 shown-requires c κs = search needs
 
@@ -19,7 +29,7 @@ digit-count-requires : tie.Need-digit-count-requires
 digit-count-requires c κs = search needs
 
 add-result : tie.Need-add-result
-add-result c = omega (arith, decimal-short (c .before .before .args .rows), c .digit-count .ensures)
+add-result c = omega (arith, decimal-short (start c .args .rows), c .digit-count .ensures)
 
 array-share-prefix-forces : tie.Need-array-share-prefix-forces
 array-share-prefix-forces c = search needs
@@ -28,28 +38,31 @@ slice-aggregate-numbers-size : tie.Need-slice-aggregate-numbers-size
 slice-aggregate-numbers-size c = sym (length-take-le _ _ (omega arith))
 
 numbers-size-requires : tie.Need-numbers-size-requires
-numbers-size-requires c κs = omega (arith, length-take (c .before .before .shown .result) (c .before .before .before .args .t2))
+numbers-size-requires c κs = omega (arith, length-take (c .before .before .shown .result) (start (c .before) .args .t2))
 
 add-result-2 : tie.Need-add-result-2
 add-result-2 c =
-    let start = c .before .before .before .before in
+    let counted = count-measured c in
+    let args = start counted .args in
+    let count = counted .before .shown .result in
     omega (
       arith,
-      decimal-short (start .args .rows),
-      c .before .before .digit-count .ensures,
+      decimal-short (args .rows),
+      counted .digit-count .ensures,
       c .numbers-size .ensures,
-      items-short (take (c .before .before .before .shown .result) (start .args .t2)),
-      length-take (c .before .before .before .shown .result) (start .args .t2),
+      items-short (take count (args .t2)),
+      length-take count (args .t2),
     )
 
 returns : tie.Need-returns
 returns c =
-    let start = c .before .before .before .before in
-    let forces = ap (λ (count : ℕ). length (items decimal (take count (start .args .t2)))) (c .before .before .before .shown .ensures) in
+    let counted = count-measured c in
+    let args = start counted .args in
+    let forces = ap (λ (count : ℕ). length (items decimal (take count (args .t2)))) (counted .before .shown .ensures) in
     omega (
       arith,
-      items-first decimal (start .args .rows) (rowForces (start .args .rows) (start .args .t2)),
-      c .before .before .digit-count .ensures,
+      items-first decimal (args .rows) (rowForces (args .rows) (args .t2)),
+      counted .digit-count .ensures,
       c .numbers-size .ensures ∙ forces,
     )
 

@@ -1,21 +1,20 @@
--- `joints::joint_of` meets its contract: column, bolts and face are what their functions ensure. Assumes nothing.
-use Rattle.words.specs.Words.{jointOfWords}
+-- `joints::joint_of` meets its contract: fields and levers are what their functions ensure. Assumes nothing.
+use mathlib.Core.Path.{_∙_}
 use borrow.Author.Needs.{needs}
 use Rattle.words.proofs.joints.joint_of.Statement.{statement}
 use Rattle.words.proofs.joints.joint_of.Tie as tie
 
-column-of-requires : tie.Need-column-of-requires
-column-of-requires c κs = search needs
+fields-of-requires : tie.Need-fields-of-requires
+fields-of-requires c κs = search needs
 
-bolts-of-requires : tie.Need-bolts-of-requires
-bolts-of-requires c κs = search needs
+levers-of-requires : tie.Need-levers-of-requires
+levers-of-requires c κs = search needs
 
-face-of-requires : tie.Need-face-of-requires
-face-of-requires c κs = search needs
+joint-of-requires : tie.Need-joint-of-requires
+joint-of-requires c κs = search needs
 
 returns : tie.Need-returns
-unfolding jointOfWords
-returns c = λ i. record { column = c .before .before .column-of .ensures i; bolts = c .before .bolts-of .ensures i; face = c .face-of .ensures i }
+returns c = c .joint-of .ensures ∙ rw (c .before .before .fields-of .ensures, c .before .levers-of .ensures)
 
 pub joint-of-spec : {M : Type 1} → statement M
-joint-of-spec = tie.close (tie.spec column-of-requires bolts-of-requires face-of-requires returns)
+joint-of-spec = tie.close (tie.spec fields-of-requires levers-of-requires joint-of-requires returns)

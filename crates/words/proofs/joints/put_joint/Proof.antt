@@ -1,14 +1,31 @@
--- `joints::put_joint` meets its contract: the words before the levers are the slice's front, and the levers follow them. Assumes nothing.
-use mathlib.Core.Path.{_≡_, refl}
-use lib.ListN.{length}
+-- `joints::put_joint` meets its contract: the words before the levers are put first, and the levers follow them. Assumes nothing.
+use Prim.Native.Nat.{ℕ}
+use mathlib.Core.Path.{_≡_, refl, ap, _∙_}
+use mathlib.Core.List.{List}
+use native.Mathlib.Omega.{arith}
 use denote.Ref.{now}
+use lib.ListN.{length}
+use lib.Seq.{sets}
 use Rattle.joint.specs.declared.Joint.{Joint}
 use Rattle.fields.specs.Fields.{fieldsOf}
 use Rattle.words.specs.Words.{headOf}
-use Rattle.words.proofs.Copies.{put-front, put-after}
+use Rattle.words.proofs.Copies.{copied-after}
 use borrow.Author.Needs.{needs}
 use Rattle.words.proofs.joints.put_joint.Statement.{statement}
 use Rattle.words.proofs.joints.put_joint.Tie as tie
+
+-- ---- the places of the walk, each a step from the one before it
+
+abbrev start : tie.After-levers → tie.Start
+start c = c .before .before .before
+
+abbrev head-known : tie.After-put-u32 → tie.After-head-of
+head-known c = c .before .before .before
+
+abbrev head-put : tie.After-put-eight-u32-arg → tie.After-put-u32
+head-put c = c .before .before .before
+
+-- ---- the needs
 
 head-length : (joint : Joint) → length (headOf joint) ≡ 29
 unfolding headOf fieldsOf
@@ -31,17 +48,16 @@ same-length c = search needs
 
 returns : tie.Need-returns
 returns c =
-    let second = c .before .before in
-    let first = second .before .before .before .before in
-    let head = first .before .before .before in
-    let args = head .before .before .before .before .args in
+    let levers = c .before .before in
+    let head = head-put (levers .before) in
+    let known = head-known head in
+    let args = start (known .before) .args in
+    let room = start (known .before) .pre in
     let joint = args .joint in
     let words = now (args .words) in
-    let between = first .put-u32 .last .0 in
-    let fits = head-length joint in
-    let placed = put-front words between (headOf joint) fits (rw (head .head-of .ensures, fits) at (first .put-u32 .ensures)) in
-    put-after words _ (joint .face .levers) (second .put-eight-u32 .ensures .0) (headOf joint) between fits placed
-    (second .put-eight-u32 .ensures .1)
+    levers .put-eight-u32 .ensures .1
+    ∙ ap (λ (slice : List ℕ). sets slice 29 (joint .face .levers)) (head .put-u32 .ensures ∙ ap (sets words 0) (known .head-of .ensures))
+    ∙ copied-after words (headOf joint) (joint .face .levers) (head-length joint) (omega (arith, levers .put-eight-u32 .ensures .0))
 
 pub put-joint-spec : {M : Type 1} → statement M
 put-joint-spec =

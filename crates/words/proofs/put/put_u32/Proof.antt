@@ -14,6 +14,9 @@ Inv-loop slice₀ at numbers done₀ slice done = CopyHead slice₀ at numbers s
 abbrev μ-loop : tie.MeasureT-loop
 μ-loop slice₀ at numbers done₀ slice done = length numbers - done
 
+abbrev head : tie.After-shared-slice-known Inv-loop μ-loop → tie.At-loop Inv-loop μ-loop
+head c = c .before .before
+
 loop-holds : tie.Need-loop-holds Inv-loop μ-loop
 loop-holds c = copy-none _ _ _
 
@@ -30,9 +33,7 @@ mul-slice-2 : tie.Need-mul-slice-2 Inv-loop μ-loop
 mul-slice-2 c = search needs
 
 slice-write-slice : tie.Need-slice-write-slice Inv-loop μ-loop
-slice-write-slice c =
-    let length-kept = copy-length (c .before .before .loop .inv) (c .before .before .before .pre) in
-    omega arith
+slice-write-slice c = omega (arith, copy-length (head c .loop .inv))
 
 add-done : tie.Need-add-done Inv-loop μ-loop
 add-done c = search needs
@@ -41,13 +42,13 @@ loop-less : tie.Need-loop-less Inv-loop μ-loop
 loop-less c = search needs
 
 loop-again : tie.Need-loop-again Inv-loop μ-loop
-loop-again c = copy-more (c .before .before .loop .inv) (c .before .before .before .pre) (c .before .loop-test .taken)
+loop-again c = copy-more (head c .loop .inv) (c .before .loop-test .taken)
 
 same-length : tie.Need-same-length Inv-loop μ-loop
-same-length c = copy-length (c .before .loop .inv) (c .before .before .pre)
+same-length c = copy-length (c .before .loop .inv)
 
 returns : tie.Need-returns Inv-loop μ-loop
-returns c = copy-done (c .before .loop .inv) (c .before .before .pre) (c .loop-test .left)
+returns c = copy-done (c .before .loop .inv) (c .loop-test .left)
 
 pub put-u32-spec : {M : Type 1} → statement M
 put-u32-spec =

@@ -1,0 +1,36 @@
+-- What printing a sheet into a lent buffer comes to, and the figures that its code goes by. Nothing here is document 01's.
+-- Assumes nothing.
+use Prim.Native.Nat.{ℕ, _+_, _*_, _/_}
+use mathlib.Core.List.{List, [], _∷_}
+use mathlib.Core.Bool.{cond}
+use lib.Dec.{leb, eqb}
+use lib.ListN.{length}
+use Rattle.buffers.specs.Put.{atFront}
+use Rattle.jointfile.specs.declared.Reading.{Reading}
+use Rattle.line.specs.Line.{refusalLine}
+use Rattle.printer.specs.Sheet.{Line, jointLine}
+use Rattle.printer.specs.declared.Printed.{Printed}
+use Rattle.printer.specs.declared.Printed.the-variants.{Length, NoRoom}
+
+-- what printing gives: the count of bytes, or that there is no room for all of them; and the buffer at exit
+pub data Printing : Type 0 where
+  whole : (size : ℕ) (buffer : List ℕ) → Printing
+  noRoom : (buffer : List ℕ) → Printing
+
+-- The bytes stand at the buffer's front, which is as it was past them. Where they don't fit whole, all of it is.
+unfoldable pub printing : (bytes buffer : List ℕ) → Printing
+printing bytes buffer = cond (leb (length bytes) (length buffer)) (whole (length bytes) (atFront bytes buffer)) (noRoom buffer)
+
+-- What each case of the enum `Printed` says, with the buffer at exit.
+abbrev pub printedMeaning : Printed → List ℕ → Printing
+printedMeaning (Length size) buffer = whole size buffer
+printedMeaning NoRoom buffer = noRoom buffer
+
+-- No sheet of so many bytes is longer.
+abbrev pub mostPrinted : (count : ℕ) → ℕ
+mostPrinted count = (count + 29) / 30 * 283
+
+-- the line of a joint by `read`'s answer
+unfoldable pub readingLine : (number : ℕ) → Reading → Line
+readingLine number reading =
+    cond (eqb (reading .refusal) 0) (jointLine number (reading .joint)) (refusalLine number (reading .refusal ∷ []))
