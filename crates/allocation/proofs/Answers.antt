@@ -74,5 +74,5 @@ module _ (n : ℕ) (limits : List ℕ) where
       let b = best (listed n limits) n in
       let list = shared (listed n limits) n in
       let own : take n (answer .forces) ≡ list =
-          ap (λ a. take n (a .forces)) (sym (whole .1)) ∙ take-at list (replicate (8 - length list) 0) n (b .competes .rows) in
+      ap (λ a. take n (a .forces)) (sym (whole .1)) ∙ take-at list (replicate (8 - length list) 0) n (b .competes .rows) in
       rw own b
