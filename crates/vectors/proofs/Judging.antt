@@ -7,7 +7,7 @@ use native.Mathlib.Omega.{arith}
 use lib.Dec.{leb}
 use lib.ListN.{List·getD-eq-default}
 use borrow.Author.Tests.{le-leb, leb-true}
-use Rattle.outcome.specs.declared.Outcome.{Outcome}
+use Rattle.outcome.specs.declared.FaceResult.{FaceResult}
 use Rattle.vectors.specs.Printed.{near, quantities, quantityOf}
 
 -- tests that are true together are equal
@@ -69,10 +69,10 @@ past : {q k : ℕ} → k ≤ q → (q ≡ k → ⊥) → k + 1 ≤ q
 past low other = omega arith
 
 -- a number that isn't one of 1 to 9 tells nothing
-pub quantity-none : (outcome : Outcome) (q : ℕ) → (q ≡ 1 → ⊥) → (q ≡ 2 → ⊥) → (q ≡ 3 → ⊥) → (q ≡ 4 → ⊥) → (q ≡ 5 → ⊥) → (q ≡ 6 → ⊥)
-    → (q ≡ 7 → ⊥) → (q ≡ 8 → ⊥) → (q ≡ 9 → ⊥) → 0 ≡ quantityOf outcome q
+pub quantity-none : (result : FaceResult) (q : ℕ) → (q ≡ 1 → ⊥) → (q ≡ 2 → ⊥) → (q ≡ 3 → ⊥) → (q ≡ 4 → ⊥) → (q ≡ 5 → ⊥) → (q ≡ 6 → ⊥)
+    → (q ≡ 7 → ⊥) → (q ≡ 8 → ⊥) → (q ≡ 9 → ⊥) → 0 ≡ quantityOf result q
 unfolding quantityOf
-quantity-none outcome zero n1 n2 n3 n4 n5 n6 n7 n8 n9 = refl
-quantity-none outcome (suc q) n1 n2 n3 n4 n5 n6 n7 n8 n9 =
+quantity-none result zero n1 n2 n3 n4 n5 n6 n7 n8 n9 = refl
+quantity-none result (suc q) n1 n2 n3 n4 n5 n6 n7 n8 n9 =
     let ten = past (past (past (past (past (past (past (past (past (omega arith) n1) n2) n3) n4) n5) n6) n7) n8) n9 in
-    sym (List·getD-eq-default (quantities outcome) 0 ten)
+    sym (List·getD-eq-default (quantities result) 0 ten)

@@ -15,15 +15,16 @@ as-number : (b : Bool) → boolByte b ≡ flag b
 as-number true = refl
 as-number false = refl
 
-pub items-listed : (o : Outcome) (number force : ℕ) → length (o .forces) ≡ 8 → number ≡ checkNumber (o .check) → force ≡ forceOf (o .check)
+pub items-listed : (o : Outcome) (number force : ℕ) → length (o .result .forces) ≡ 8 → number ≡ checkNumber (o .result .check)
+    → force ≡ forceOf (o .result .check)
     → _≡_ {A = List ℕ}
-    (o .refusal ∷ o .field ∷ (placesFrom 0 8 (o .forces)
-    ++ (o .sum ∷ o .«newton_metres» ∷ o .cap ∷ number ∷ force
-    ∷ boolByte (o .verdicts .bending) ∷ boolByte (o .verdicts .bolts)
-    ∷ boolByte (o .verdicts .«flange_weld») ∷ boolByte (o .verdicts .«web_weld») ∷ [])))
+    (o .refusal .number ∷ o .refusal .field ∷ (placesFrom 0 8 (o .result .forces)
+    ++ (o .result .sum ∷ o .result .«newton_metres» ∷ o .result .cap ∷ number ∷ force
+    ∷ boolByte (o .result .verdicts .bending) ∷ boolByte (o .result .verdicts .bolts)
+    ∷ boolByte (o .result .verdicts .«flange_weld») ∷ boolByte (o .result .verdicts .«web_weld») ∷ [])))
     (outcomeItems o)
 unfolding figures outcomeItems
 items-listed o number force eight e f =
-    let yes = o .verdicts in
+    let yes = o .result .verdicts in
     rw (e, f, as-number (yes .bending), as-number (yes .bolts), as-number (yes .«flange_weld»), as-number (yes .«web_weld»))
-    (ap (λ (forces : List ℕ). o .refusal ∷ o .field ∷ (forces ++ figures o)) (all-places 8 (o .forces) eight))
+    (ap (λ (forces : List ℕ). o .refusal .number ∷ o .refusal .field ∷ (forces ++ figures (o .result))) (all-places 8 (o .result .forces) eight))

@@ -6,6 +6,7 @@ use Rattle.allocation.specs.declared.Allocation.{Allocation}
 use Rattle.governing.specs.declared.CompressionCheck.{CompressionCheck}
 use Rattle.governing.specs.declared.CompressionCheck.the-variants.{Flange, Bearing, Buckling, Panel}
 use Rattle.governing.specs.Governing.{forceOf}
+use Rattle.outcome.specs.declared.FaceResult.{FaceResult}
 use Rattle.outcome.specs.declared.Outcome.{Outcome}
 
 -- F, B, K, S, counted from 1
@@ -20,16 +21,16 @@ abbrev pub flag : Bool → ℕ
 flag passes = cond passes 1 0
 
 -- Sum, newton metres, cap, check and its newtons, and four verdicts.
-unfoldable pub figures : Outcome → List ℕ
-figures outcome =
-    let verdicts = outcome .verdicts in
-    outcome .sum ∷ outcome .«newton_metres» ∷ outcome .cap ∷ checkNumber (outcome .check) ∷ forceOf (outcome .check)
+unfoldable pub figures : FaceResult → List ℕ
+figures result =
+    let verdicts = result .verdicts in
+    result .sum ∷ result .«newton_metres» ∷ result .cap ∷ checkNumber (result .check) ∷ forceOf (result .check)
     ∷ flag (verdicts .bending) ∷ flag (verdicts .bolts) ∷ flag (verdicts .«flange_weld») ∷ flag (verdicts .«web_weld») ∷ []
 
 -- Refusal, field, eight forces and the figures.
 unfoldable pub outcomeItems : Outcome → List ℕ
 outcomeItems outcome =
-    outcome .refusal ∷ outcome .field ∷ (outcome .forces ++ figures outcome)
+    outcome .refusal .number ∷ outcome .refusal .field ∷ (outcome .result .forces ++ figures (outcome .result))
 
 -- Refusal and eight forces.
 unfoldable pub allocationItems : Allocation → List ℕ

@@ -7,7 +7,7 @@ use lib.Dec.{eqb, leb}
 use lib.ListN.{getD}
 use Rattle.arithmetic.specs.Table.{oneOf}
 use Rattle.governing.specs.Governing.{forceOf}
-use Rattle.outcome.specs.declared.Outcome.{Outcome}
+use Rattle.outcome.specs.declared.FaceResult.{FaceResult}
 use Rattle.vectors.specs.Answers.{checkNumber}
 
 -- the cells that are known not to agree, by their number
@@ -19,32 +19,32 @@ abbrev pub near : (worked printed tolerance : ℕ) → Bool
 near worked printed tolerance = leb worked (printed + tolerance) && leb printed (worked + tolerance)
 
 -- the newtons of the governing check, where it is the one asked for (0: any), else 0
-abbrev pub governingForce : Outcome → ℕ → ℕ
-governingForce outcome kind = cond (eqb kind 0 || eqb (checkNumber (outcome .check)) kind) (forceOf (outcome .check)) 0
+abbrev pub governingForce : FaceResult → ℕ → ℕ
+governingForce result kind = cond (eqb kind 0 || eqb (checkNumber (result .check)) kind) (forceOf (result .check)) 0
 
 -- the force of a row; row 1 stands first
-abbrev pub rowForce : Outcome → ℕ → ℕ
-rowForce outcome place = getD (outcome .forces) place 0
+abbrev pub rowForce : FaceResult → ℕ → ℕ
+rowForce result place = getD (result .forces) place 0
 
 -- What a cell can tell, by its number from 0 on: nothing; the force of rows 1, 2 and 3; the least of rows 4 to 6; the governing check
 -- of any kind; and of each kind.
-abbrev pub quantities : Outcome → List ℕ
-quantities outcome =
+abbrev pub quantities : FaceResult → List ℕ
+quantities result =
     0
-    ∷ rowForce outcome 0
-    ∷ rowForce outcome 1
-    ∷ rowForce outcome 2
-    ∷ min (min (rowForce outcome 3) (rowForce outcome 4)) (rowForce outcome 5)
-    ∷ governingForce outcome 0
-    ∷ governingForce outcome 1
-    ∷ governingForce outcome 2
-    ∷ governingForce outcome 3
-    ∷ governingForce outcome 4
+    ∷ rowForce result 0
+    ∷ rowForce result 1
+    ∷ rowForce result 2
+    ∷ min (min (rowForce result 3) (rowForce result 4)) (rowForce result 5)
+    ∷ governingForce result 0
+    ∷ governingForce result 1
+    ∷ governingForce result 2
+    ∷ governingForce result 3
+    ∷ governingForce result 4
     ∷ []
 
 -- what a cell of that number tells, 0 past the last
-unfoldable pub quantityOf : Outcome → ℕ → ℕ
-quantityOf outcome quantity = getD (quantities outcome) quantity 0
+unfoldable pub quantityOf : FaceResult → ℕ → ℕ
+quantityOf result quantity = getD (quantities result) quantity 0
 
 -- A cell is as it should be: an exception disagrees, and any other agrees.
 abbrev pub asListed : (cell worked printed tolerance : ℕ) → Bool

@@ -29,7 +29,7 @@ workHolds bytes = jointHolds 19 worksOut bytes
 
 -- A cell: a joint; the cell's number, its line in P207's text, what it tells, the newtons printed and their tolerance.
 abbrev pub isAsListed : Joint → List ℕ → Bool
-isAsListed joint cell = asListed (getD cell 0 0) (quantityOf (worked joint) (getD cell 2 0)) (getD cell 3 0) (getD cell 4 0)
+isAsListed joint cell = asListed (getD cell 0 0) (quantityOf (worked joint .result) (getD cell 2 0)) (getD cell 3 0) (getD cell 4 0)
 
 unfoldable pub cellHolds : List ℕ → Bool
 cellHolds bytes = jointHolds 5 isAsListed bytes

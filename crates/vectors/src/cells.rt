@@ -6,7 +6,7 @@ use crate::stored::joint_at;
 use crate::tell::bad_record;
 use crate::tell::number;
 use crate::tell::text;
-use outcome::Outcome;
+use outcome::FaceResult;
 ghost use mathlib.Core.Path.{_≡_};
 ghost use Prim.Native.Nat.{min};
 ghost use Rattle.arithmetic.specs.Table.{oneOf};
@@ -53,10 +53,10 @@ fn lesser(a: u64, b: u64) -> u64
 }
 
 // The newtons of the governing check, if it is the one asked for (0: any), else 0.
-fn governing(outcome: Outcome, kind: u64) -> u64
-    ensures { λ r. ⌜ r ≡ governingForce outcome kind ⌝ }
+fn governing(result: FaceResult, kind: u64) -> u64
+    ensures { λ r. ⌜ r ≡ governingForce result kind ⌝ }
 {
-    let check = outcome.check;
+    let check = result.check;
     if (kind == 0) | (check_number(check) == kind) {
         return governing::force_of(check);
     }
@@ -64,20 +64,20 @@ fn governing(outcome: Outcome, kind: u64) -> u64
 }
 
 // What a cell tells: 1 to 3 the force of that row, 4 the least of rows 4 to 6, 5 the governing check of any kind, 6 to 9 of that kind.
-fn quantity_of(outcome: Outcome, quantity: u64) -> u64
-    ensures { λ r. ⌜ r ≡ quantityOf outcome quantity ⌝ }
+fn quantity_of(result: FaceResult, quantity: u64) -> u64
+    ensures { λ r. ⌜ r ≡ quantityOf result quantity ⌝ }
 {
-    let forces = outcome.forces;
+    let forces = result.forces;
     match quantity {
         1 => forces[0],
         2 => forces[1],
         3 => forces[2],
         4 => lesser(lesser(forces[3], forces[4]), forces[5]),
-        5 => governing(outcome, 0),
-        6 => governing(outcome, 1),
-        7 => governing(outcome, 2),
-        8 => governing(outcome, 3),
-        9 => governing(outcome, 4),
+        5 => governing(result, 0),
+        6 => governing(result, 1),
+        7 => governing(result, 2),
+        8 => governing(result, 3),
+        9 => governing(result, 4),
         _ => 0,
     }
 }
@@ -137,6 +137,7 @@ pub fn run(vector: u64, bytes: &[u8]) -> bool
     if !is_end(bytes, end) {
         return bad_record(vector);
     }
-    let worked = quantity_of(work::work(stored.joint), cell[2]);
+    let outcome = work::work(stored.joint);
+    let worked = quantity_of(outcome.result, cell[2]);
     is_cell(cell[0], cell[1], worked, cell[3], cell[4])
 }

@@ -23,15 +23,16 @@ pub fn check_number(check: CompressionCheck) -> u64
 }
 
 // Refusal, field, eight forces, sum, newton metres, cap, check and its newtons, four verdicts.
-fn items_of(outcome: Outcome) -> [u64; 19]
+fn items_of(outcome: Outcome, forces: [u64; 8]) -> [u64; 19]
+    requires { ⌜ forces ≡ outcome .result .forces ⌝ }
     ensures { λ r. ⌜ r ≡ outcomeItems outcome ⌝ }
 {
-    let forces = outcome.forces;
-    let verdicts = outcome.verdicts;
-    let check = outcome.check;
+    let result = outcome.result;
+    let verdicts = result.verdicts;
+    let check = result.check;
     [
-        outcome.refusal as u64,
-        outcome.field as u64,
+        outcome.refusal.number as u64,
+        outcome.refusal.field as u64,
         forces[0],
         forces[1],
         forces[2],
@@ -40,9 +41,9 @@ fn items_of(outcome: Outcome) -> [u64; 19]
         forces[5],
         forces[6],
         forces[7],
-        outcome.sum,
-        outcome.newton_metres,
-        outcome.cap,
+        result.sum,
+        result.newton_metres,
+        result.cap,
         check_number(check),
         governing::force_of(check),
         verdicts.bending as u64,
@@ -63,6 +64,9 @@ pub fn run(vector: u64, bytes: &[u8]) -> bool
     if !is_end(bytes, end) {
         return bad_record(vector);
     }
-    let are = items_of(work::work(stored.joint));
+    let outcome = work::work(stored.joint);
+    let result = outcome.result;
+    let forces = result.forces;
+    let are = items_of(outcome, forces);
     are_items(vector, &are, &should)
 }

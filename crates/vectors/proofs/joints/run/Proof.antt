@@ -46,11 +46,12 @@ are-items-requires c κs = search needs
 returns-2 : tie.Need-returns-2
 unfolding workHolds
 returns-2 c =
-    let end = c .before .before .before .before .before .before in
     let called = c .before .before .before in
+    let worked = called .before .before .before in
+    let end = worked .before .before in
     joint-judged worksOut (end .before .before .before .before .joint-at .ensures) (end .before .before .fill .ensures) (end .is-end .ensures)
-    (c .before .before .before .before .before .if1 .left)
-    (c .are-items .ensures ∙ rw (called .items-of .ensures, called .before .work .ensures .0))
+    (worked .before .if1 .left)
+    (c .are-items .ensures ∙ rw (called .items-of .ensures, worked .work .ensures .0))
 
 pub run-spec : {M : Type 1} → statement M
 run-spec =
