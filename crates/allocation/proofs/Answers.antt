@@ -1,18 +1,17 @@
 -- The cases of what Allocate answers, as the code's tests tell them apart, and what an answer that is no refusal is.
 -- Assumes nothing.
 use mathlib.Core.Path.{_≡_, sym, ap, _∙_}
-use mathlib.Core.Bool.{Bool, true, false}
+use mathlib.Core.Bool.{true, false}
 use Prim.Native.Nat.{ℕ, suc, _+_, _-_, _*_, _≤_, _<_}
 use native.Mathlib.Nat.{mul-le-mul}
 use native.Mathlib.Omega.{arith}
-use mathlib.Core.List.{List, [], _∷_}
+use mathlib.Core.List.{List}
 use lib.ListN.{length, take, replicate}
 use lib.Seq.{take-at, length-take-le, getD-take}
 use lib.Dec.{leb}
 use borrow.Author.Tests.{lt-leb, le-leb, leb-true}
-use Rattle.arithmetic.specs.Checks.{Check, firstFailing}
 use Rattle.arithmetic.specs.Range.{within}
-use Rattle.arithmetic.proofs.Checks.{holds, fails, held, none-left}
+use Rattle.arithmetic.proofs.Checks.{holds, fails, none-left, positive, numbered-holds}
 use Rattle.joint.specs.Ranges.{rowCounts}
 use Rattle.joint.specs.Places.{eightPlaces}
 use Rattle.sharing.specs.Groups.{groupCount, listed, mostLimit}
@@ -64,24 +63,16 @@ module _ (n : ℕ) (limits : List ℕ) where
                   rw (getD-take (groupCount n) limits k 0 h) at (each-within mostLimit (take (groupCount n) limits) small k inside);
             }
 
-  -- where the answer is no refusal the first test holds, and the others decide
-  passes : (number : ℕ) (test : Bool) (result : Allocation) (checks : List Check) (answer : Allocation)
-      → firstFailing result refusedBy ((suc number, test) ∷ checks) ≡ answer → answer .refusal ≡ 0
-      → firstFailing result refusedBy checks ≡ answer
-  passes number test result checks answer e none =
-      held result refusedBy (suc number) test checks answer e
-      (λ refused. let never : suc number ≡ 0 = ap (λ a. a .refusal) refused ∙ none in absurd (omega arith)) .1
-
   -- an answer that is no refusal has the best forces
   pub no-refusal-is-best : (answer : Allocation) → allocated n limits ≡ answer → answer .refusal ≡ 0
       → Best (listed n limits) n (take n (answer .forces))
-  unfolding allocated refusals eightPlaces
+  unfolding allocated refusals positive eightPlaces
   no-refusal-is-best answer e none =
-      let p3 = passes 2 _ _ _ answer e none in
-      let p7 = passes 6 _ _ _ answer p3 none in
-      let p8 = passes 7 _ _ _ answer p7 none in
+      let whole = numbered-holds _ refusedBy answer
+      (λ number refused. let never : suc number ≡ 0 = ap (λ a. a .refusal) refused ∙ none in absurd (omega arith))
+      (refusals n limits) tt e in
       let b = best (listed n limits) n in
       let list = shared (listed n limits) n in
       let own : take n (answer .forces) ≡ list =
-      ap (λ a. take n (a .forces)) (sym p8 ∙ none-left _ refusedBy) ∙ take-at list (replicate (8 - length list) 0) n (b .competes .rows) in
+      ap (λ a. take n (a .forces)) (sym (whole .1)) ∙ take-at list (replicate (8 - length list) 0) n (b .competes .rows) in
       rw own b

@@ -5,7 +5,7 @@ use mathlib.Core.Path.{_≡_, refl, sym, ap, _∙_}
 use mathlib.Core.Bool.{Bool, true, false, cond}
 use Prim.Native.Nat.{ℕ, zero, suc}
 use mathlib.Core.List.{List, [], _∷_, _++_}
-use lib.Dec.{T}
+use lib.Dec.{T, eqb}
 use lib.ListN.{getD}
 use Rattle.arithmetic.specs.Checks.{Check, firstFailing}
 
@@ -50,6 +50,33 @@ of-each f passed failed (check ∷ checks) = by-test (check .1) (of-each f passe
         ≡ cond test (firstFailing (f passed) (λ number. f (failed number)) checks) (f (failed (check .0)))
     by-test true rest = rest
     by-test false rest = refl
+
+-- the test of a list that has a number; true where none has it
+unfoldable pub numbered : ℕ → List Check → Bool
+numbered number [] = true
+numbered number (check ∷ checks) = cond (eqb number (check .0)) (check .1) (numbered number checks)
+
+-- no check has the number 0
+unfoldable pub positive : List Check → Bool
+positive [] = true
+positive ((zero, test) ∷ checks) = false
+positive ((suc number, test) ∷ checks) = positive checks
+
+-- an answer that is the failure of no number but 0: every test holds, wherever in the list it stands, and the answer is that of passing
+pub numbered-holds : {A : Type 0} (passed : A) (failed : ℕ → A) (answer : A) → ((number : ℕ) → failed (suc number) ≡ answer → ⊥)
+    → (checks : List Check) → T (positive checks) → firstFailing passed failed checks ≡ answer
+    → ((number : ℕ) → numbered number checks ≡ true) × (passed ≡ answer)
+unfolding numbered positive
+numbered-holds passed failed answer apart [] above e = ((λ number. refl), sym (none-left passed failed) ∙ e)
+numbered-holds passed failed answer apart ((zero, test) ∷ checks) above e = absurd above
+numbered-holds passed failed answer apart ((suc own, test) ∷ checks) above e =
+    let first = held passed failed (suc own) test checks answer e (apart own) in
+    let others = numbered-holds passed failed answer apart checks above (first .1) in
+    ((λ number. by-number (eqb number (suc own)) (first .0) (others .0 number)), others .1)
+  where
+    by-number : (same : Bool) {rest : Bool} → test ≡ true → rest ≡ true → cond same test rest ≡ true
+    by-number true own-holds rest-holds = own-holds
+    by-number false own-holds rest-holds = rest-holds
 
 -- passing and failing are told apart
 module _ {A : Type 0} (passed : A) (failed : ℕ → A) (apart : (number : ℕ) → passed ≡ failed number → ⊥) where

@@ -7,6 +7,7 @@ use lib.ListN.{take}
 use lib.IntN.{ℤ, pos}
 use Rattle.joint.specs.declared.Joint.{Joint}
 use Rattle.joint.specs.declared.Column.{Column}
+use Rattle.joint.specs.declared.Plate.{Plate}
 use Rattle.numbers.specs.Parse.{Parse, got, refused}
 use Rattle.numbers.specs.Number.{stored, readNumber}
 use Rattle.jointfile.specs.File.{reading}
@@ -14,8 +15,9 @@ use Rattle.jointfile.specs.Write.{file}
 use Rattle.sharing.specs.Sharing.{moment}
 use Rattle.allocation.specs.Allocation.{allocated}
 use Rattle.strength.specs.Steel.{steelStrength}
-use Rattle.strength.specs.Bolt.{boltUltimate}
-use Rattle.strength.specs.Thickness.{thicknessLimit, tooThick}
+use Rattle.strength.specs.Bolt.{boltStrengths}
+use Rattle.strength.specs.Thickness.{bothTooThick}
+use Rattle.strength.specs.declared.SteelStrengths.{SteelStrengths}
 use Rattle.stubs.specs.Bending.{effectiveEdge, effectiveLength, bending}
 use Rattle.stubs.specs.Web.{webTension}
 use Rattle.compression.specs.Compression.{webBuckling}
@@ -26,34 +28,52 @@ pub record Checked : Type 0 where
   pub given : List ℕ
   pub stated : List ℕ
 
--- the forces of n rows under a list of limits
-forces : ℕ → List ℕ → List ℕ
-forces n limits = take n (allocated n limits .forces)
+-- Allocate's whole answer for n rows under a list of limits: the refusal, 0 for none, and all eight places
+answered : ℕ → List ℕ → List ℕ
+answered n limits = let answer = allocated n limits in answer .refusal ∷ answer .forces
 
 -- A, in kilonewtons: the forces, and their moment with levers of 565, 465 and 375 millimetres
+limits-A : List ℕ
+limits-A = 371 ∷ 687 ∷ 974 ∷ 375 ∷ 679 ∷ 375 ∷ []
+
 checked-A : Checked
-unfolding forces
-checked-A =
-    let got = forces 3 (371 ∷ 687 ∷ 974 ∷ 375 ∷ 679 ∷ 375 ∷ []) in
-    record { given = moment (565 ∷ 465 ∷ 375 ∷ []) got ∷ got; stated = 464180 ∷ 371 ∷ 316 ∷ 287 ∷ [] }
+unfolding answered limits-A
+checked-A = record {
+  given = moment (565 ∷ 465 ∷ 375 ∷ []) (take 3 (allocated 3 limits-A .forces)) ∷ answered 3 limits-A;
+  stated = 464180 ∷ 0 ∷ 371 ∷ 316 ∷ 287 ∷ 0 ∷ 0 ∷ 0 ∷ 0 ∷ 0 ∷ [];
+}
 
 -- B: A with 1–3 = 600
 checked-B : Checked
-unfolding forces
-checked-B = record { given = forces 3 (371 ∷ 687 ∷ 600 ∷ 375 ∷ 679 ∷ 375 ∷ []); stated = 371 ∷ 229 ∷ 0 ∷ [] }
+unfolding answered
+checked-B = record {
+  given = answered 3 (371 ∷ 687 ∷ 600 ∷ 375 ∷ 679 ∷ 375 ∷ []);
+  stated = 0 ∷ 371 ∷ 229 ∷ 0 ∷ 0 ∷ 0 ∷ 0 ∷ 0 ∷ 0 ∷ [];
+}
 
 -- C: limits 300, 200, 300 for two rows
 checked-C : Checked
-unfolding forces
-checked-C = record { given = forces 2 (300 ∷ 200 ∷ 300 ∷ []); stated = 200 ∷ 0 ∷ [] }
+unfolding answered
+checked-C = record { given = answered 2 (300 ∷ 200 ∷ 300 ∷ []); stated = 0 ∷ 200 ∷ 0 ∷ 0 ∷ 0 ∷ 0 ∷ 0 ∷ 0 ∷ 0 ∷ [] }
 
--- D: column flange bending of so many rows with a rise
+-- D: the bolts are class 88, M24, and Tc is 205: yc and W come of the definitions
+yc-D : ℕ
+yc-D = steelStrength 275 205
+
+W-D : ℕ
+W-D = boltStrengths (record { class = 88; diameter = 24 }) .«pair_tension»
+
+-- column flange bending of so many rows with a rise
 flange : (rows rise : ℕ) → ℕ
-flange rows rise = bending 3334 (effectiveEdge 7915 5000 3334) 205 265 395360 rows (effectiveLength 3334 7915 rise)
+unfolding yc-D W-D
+flange rows rise = bending 3334 (effectiveEdge 7915 5000 3334) 205 yc-D W-D rows (effectiveLength 3334 7915 rise)
 
 checked-D : Checked
 unfolding flange
-checked-D = record { given = flange 1 0 ∷ flange 2 1000 ∷ flange 3 1900 ∷ []; stated = 375131 ∷ 685938 ∷ 972382 ∷ [] }
+checked-D = record {
+  given = yc-D ∷ W-D ∷ flange 1 0 ∷ flange 2 1000 ∷ flange 3 1900 ∷ [];
+  stated = 265 ∷ 395360 ∷ 375131 ∷ 685938 ∷ 972382 ∷ [];
+}
 
 -- E: one row, column web
 checked-E : Checked
@@ -67,22 +87,40 @@ checked-F : Checked
 unfolding column-F
 checked-F = record { given = webBuckling 1973 275 column-F ∷ []; stated = 407706 ∷ [] }
 
--- G: 1 where a flange of that thickness is too thick for bolts of class 88, M24
-thick : ℕ → ℕ
-thick flange = cond (tooThick flange (steelStrength 275 flange) (thicknessLimit 24 (boltUltimate 88))) 1 0
+-- G: 1 where a column flange of that thickness, and a plate of that thickness, are both too thick for bolts of class 88, M24
+column-G : (Tc : ℕ) → Column
+column-G Tc = record { grade = 275; depth = 0; width = 0; flange = Tc; web = 0; radius = 0; clear = 0 }
 
+plate-G : (tp : ℕ) → Plate
+plate-G tp = record { grade = 275; width = 0; thickness = tp }
+
+steel-G : (Tc tp : ℕ) → SteelStrengths
+steel-G Tc tp = record { column = steelStrength 275 Tc; beam = 0; plate = steelStrength 275 tp }
+
+thick : (Tc tp : ℕ) → ℕ
+unfolding column-G plate-G steel-G
+thick Tc tp =
+    cond (bothTooThick (column-G Tc) (plate-G tp) (steel-G Tc tp) (boltStrengths (record { class = 88; diameter = 24 }))) 1 0
+
+-- Tc 219 and 220 with a plate that is too thick, and with one that isn't; yc
 checked-G : Checked
 unfolding thick
-checked-G = record { given = thick 219 ∷ thick 220 ∷ steelStrength 275 220 ∷ []; stated = 0 ∷ 1 ∷ 265 ∷ [] }
+checked-G = record {
+  given = thick 219 220 ∷ thick 220 220 ∷ thick 220 219 ∷ steelStrength 275 220 ∷ [];
+  stated = 0 ∷ 1 ∷ 0 ∷ 265 ∷ [];
+}
 
--- H: 300 as it is stored, and the refusal of a longer form of it
-refusal : {A : Type 0} → Parse A → ℕ
-refusal (got a left) = 0
-refusal (refused number) = number
+-- H: 300 as it is stored; what its bytes, and a longer form of it, read as: the refusal, 0 for none, the number and the bytes left
+read-H : Parse ℕ → List ℕ
+read-H (got number left) = 0 ∷ number ∷ left
+read-H (refused refusal) = refusal ∷ []
 
 checked-H : Checked
-unfolding refusal
-checked-H = record { given = refusal (readNumber (0xAC ∷ 0x82 ∷ 0x00 ∷ [])) ∷ stored 300; stated = 2 ∷ 0xAC ∷ 0x02 ∷ [] }
+unfolding read-H
+checked-H = record {
+  given = stored 300 ++ read-H (readNumber (0xAC ∷ 0x02 ∷ [])) ++ read-H (readNumber (0xAC ∷ 0x82 ∷ 0x00 ∷ []));
+  stated = 0xAC ∷ 0x02 ∷ 0 ∷ 300 ∷ 2 ∷ [];
+}
 
 -- I: the joint with an axial force N
 joint-I : ℤ → Joint
@@ -111,12 +149,13 @@ checked-I : Checked
 unfolding joint-I file-I
 checked-I = record {
   given = sheetOf file-I;
-  stated = 49 ∷ 32 ∷ 49 ∷ 32 ∷ 50 ∷ 49 ∷ 57 ∷ 51 ∷ 52 ∷ 53 ∷ 32 ∷ 50 ∷ 49 ∷ 57 ∷ 51 ∷ 52 ∷ 53 ∷ 32 ∷ 53 ∷ 50 ∷ 54 ∷ 52 ∷ 50 ∷ 32 ∷ 52 ∷ 48 ∷ 55 ∷ 55 ∷ 48 ∷ 54 ∷ 32 ∷ 75 ∷ 32 ∷ 80 ∷ 32 ∷ 80 ∷ 32 ∷ 80 ∷ 32 ∷ 80 ∷ 10 ∷ [];
+  stated = 49 ∷ 32 ∷ 49 ∷ 32 ∷ 50 ∷ 49 ∷ 57 ∷ 51 ∷ 52 ∷ 53 ∷ 32 ∷ 50 ∷ 49 ∷ 57 ∷ 51 ∷ 52 ∷ 53 ∷ 32 ∷ 53 ∷ 50 ∷ 54 ∷ 52 ∷ 50
+      ∷ 32 ∷ 52 ∷ 48 ∷ 55 ∷ 55 ∷ 48 ∷ 54 ∷ 32 ∷ 75 ∷ 32 ∷ 80 ∷ 32 ∷ 80 ∷ 32 ∷ 80 ∷ 32 ∷ 80 ∷ 10 ∷ [];
 }
 
 -- 'N 407706 gives force 0; 407707 gives 15': refusal, then the first row's force
 pushed : ℤ → List ℕ
-pushed axial = let result = worked (joint-I axial) in result .refusal ∷ take 1 (result .forces)
+pushed axial = let outcome = worked (joint-I axial) in outcome .refusal .number ∷ take 1 (outcome .result .forces)
 
 checked-I-pushed : Checked
 unfolding joint-I pushed
@@ -135,4 +174,5 @@ checked-I-file = record {
 unfoldable pub table : List Checked
 unfolding checked-A checked-B checked-C checked-D checked-E checked-F checked-G checked-H checked-I checked-I-pushed checked-I-file
 table =
-    checked-A ∷ checked-B ∷ checked-C ∷ checked-D ∷ checked-E ∷ checked-F ∷ checked-G ∷ checked-H ∷ checked-I ∷ checked-I-pushed ∷ checked-I-file ∷ []
+    checked-A ∷ checked-B ∷ checked-C ∷ checked-D ∷ checked-E ∷ checked-F ∷ checked-G ∷ checked-H
+    ∷ checked-I ∷ checked-I-pushed ∷ checked-I-file ∷ []

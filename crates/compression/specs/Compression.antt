@@ -2,12 +2,10 @@
 -- and `steel .beam`. Assumes nothing.
 use Prim.Native.Nat.{ℕ, _+_, _*_, _/_, _^_, _≤_}
 use Rattle.arithmetic.specs.Greatest.{Greatest, greatest}
-use Rattle.joint.specs.InRange.{ColumnInRange, BeamInRange, PlateInRange, WeldsInRange}
 use Rattle.joint.specs.declared.Column.{Column}
 use Rattle.joint.specs.declared.Beam.{Beam}
 use Rattle.joint.specs.declared.Plate.{Plate}
 use Rattle.joint.specs.declared.Welds.{Welds}
-use Rattle.strength.specs.InRange.{SteelInRange}
 use Rattle.strength.specs.declared.SteelStrengths.{SteelStrengths}
 use Rattle.compression.specs.declared.Resistances.{Resistances}
 
@@ -46,15 +44,3 @@ resistancesOf steel column beam plate welds =
       buckling = webBuckling b (steel .column) column;
       panel = panelShear (steel .column) column;
     }
-
--- what the compression side asks of a joint, all of it from fields in range
-pub record PartsInRange (y : SteelStrengths) (c : Column) (b : Beam) (p : Plate) (s : Welds) : Type 0 where
-  pub steel : SteelInRange y
-  pub column : ColumnInRange c
-  pub beam : BeamInRange b
-  pub plate : PlateInRange p
-  pub welds : WeldsInRange s
-
--- No web bearing of fields in range is above this, and so no governing force.
-abbrev pub mostBearing : ℕ
-mostBearing = 9230000

@@ -1,3 +1,5 @@
--- The four resistances (`Compression`), and the square root that web buckling asks for (`Root`).
-pub mod Root
+-- Document 01's four resistances (`Compression`). What serves the code: the square root that web buckling asks for (`Root`), what is asked
+-- of a joint and how large its figures are (`InRange`).
 pub mod Compression
+pub mod Root
+pub mod InRange

@@ -15,9 +15,9 @@ unfoldable pub rootCase : ℕ → Root
 rootCase x = cond (eqb x 0) Zero (Positive (squareRoot x))
 
 -- the root that a case stands for
-abbrev pub rootOf : Root → ℕ
-rootOf Zero = 0
-rootOf (Positive r) = r
+abbrev pub rootMeaning : Root → ℕ
+rootMeaning Zero = 0
+rootMeaning (Positive r) = r
 
 -- x is n bits long
 pub record BitLength (x n : ℕ) : Type 0 where

@@ -1,8 +1,10 @@
 // The compression side of a joint: its four resistances in newtons.
 ghost use mathlib.Core.Path.{_≡_};
-ghost use Rattle.arithmetic.specs.Range.{Within, _to_};
-ghost use Rattle.joint.specs.InRange.{ColumnInRange, BeamInRange, PlateInRange, WeldsInRange};
-ghost use Rattle.compression.specs.Compression.{PartsInRange, bearingLength, beamFlange, webBearing, webBuckling, panelShear, resistancesOf};
+ghost use Rattle.arithmetic.specs.Range.{Within};
+ghost use Rattle.joint.specs.InRange.{ColumnInRange, BeamInRange};
+ghost use Rattle.strength.specs.InRange.{yieldStrengths};
+ghost use Rattle.compression.specs.Compression.{bearingLength, beamFlange, webBearing, webBuckling, panelShear, resistancesOf};
+ghost use Rattle.compression.specs.InRange.{PartsInRange, LengthParts, WebParts};
 
 mod root;
 
@@ -47,7 +49,7 @@ pub fn resistances_of(
 
 // b, in tenths of a millimetre.
 fn bearing_length(column: Column, beam: Beam, plate: Plate, welds: Welds) -> u64
-    requires { ⌜ ColumnInRange column × BeamInRange beam × PlateInRange plate × WeldsInRange welds ⌝ }
+    requires { ⌜ LengthParts column beam plate welds ⌝ }
     ensures { λ r. ⌜ r ≡ bearingLength column beam plate welds ⌝ }
 {
     let b = beam.flange
@@ -58,14 +60,14 @@ fn bearing_length(column: Column, beam: Beam, plate: Plate, welds: Welds) -> u64
 }
 
 fn beam_flange(strength: u64, beam: Beam) -> u64
-    requires { ⌜ Within (255 to 355) strength × BeamInRange beam ⌝ }
+    requires { ⌜ Within yieldStrengths strength × BeamInRange beam ⌝ }
     ensures { λ r. ⌜ r ≡ beamFlange strength beam ⌝ }
 {
     7 * strength * (beam.flange as u64) * (beam.width as u64) / 500
 }
 
 fn web_bearing(length: u64, strength: u64, column: Column) -> u64
-    requires { ⌜ Within (420 to 6500) length × Within (255 to 355) strength × ColumnInRange column ⌝ }
+    requires { ⌜ WebParts length strength column ⌝ }
     ensures { λ r. ⌜ r ≡ webBearing length strength column ⌝ }
 {
     length * (column.web as u64) * strength / 100
@@ -73,7 +75,7 @@ fn web_bearing(length: u64, strength: u64, column: Column) -> u64
 
 // The root of the limit over 16×dc: its square times 16×dc is at most the limit, and no greater one's is.
 fn web_buckling(length: u64, strength: u64, column: Column) -> u64
-    requires { ⌜ Within (420 to 6500) length × Within (255 to 355) strength × ColumnInRange column ⌝ }
+    requires { ⌜ WebParts length strength column ⌝ }
     ensures { λ r. ⌜ r ≡ webBuckling length strength column ⌝ }
 {
     let web = column.web as u64;
@@ -87,7 +89,7 @@ fn web_buckling(length: u64, strength: u64, column: Column) -> u64
 }
 
 fn panel_shear(strength: u64, column: Column) -> u64
-    requires { ⌜ Within (255 to 355) strength × ColumnInRange column ⌝ }
+    requires { ⌜ Within yieldStrengths strength × ColumnInRange column ⌝ }
     ensures { λ r. ⌜ r ≡ panelShear strength column ⌝ }
 {
     3 * strength * (column.web as u64) * (column.depth as u64) / 500

@@ -1,3 +1,2 @@
--- The order of a joint's fields in its file: the joint that has them, and those of a joint.
--- The definitions compute, and assume nothing.
+-- Document 01's own: the order of a joint's fields in its file, the joint that has them, and those of a joint.
 pub mod Fields

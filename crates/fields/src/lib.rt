@@ -1,5 +1,4 @@
 // A joint's fields 1 to 29 in file order: the joint that has them, and those of a joint. Field k of document 01 stands at place k - 1.
-// What is open here over a slice is so for the crate of words, which shows that the slice is long enough.
 use joint::Beam;
 use joint::Bolts;
 use joint::Column;
@@ -12,7 +11,8 @@ use joint::Welds;
 ghost use mathlib.Core.Path.{_≡_};
 ghost use Prim.Native.Nat.{_≤_};
 ghost use lib.ListN.{length};
-ghost use Rattle.fields.specs.Fields.{axialOf, storedAxial, columnOf, boltsOf, beamOf, plateOf, layoutOf, weldsOf, loadsOf, faceOf, jointOf, fieldsOf};
+ghost use Rattle.fields.specs.Fields.{axialOf, storedAxial, columnOf, boltsOf, beamOf, plateOf, layoutOf, weldsOf};
+ghost use Rattle.fields.specs.Fields.{loadsOf, faceOf, jointOf, fieldsOf};
 
 // The axial force that a number of the file stands for.
 fn axial_of(x: u32) -> i32
@@ -23,7 +23,7 @@ fn axial_of(x: u32) -> i32
 }
 
 // The number that an axial force is stored as. -1 - axial is never negative here, and can't wrap.
-fn stored_axial(axial: i32) -> u32
+pub fn stored_axial(axial: i32) -> u32
     ensures { λ r. ⌜ r ≡ storedAxial axial ⌝ }
 {
     if axial < 0 {
@@ -33,7 +33,7 @@ fn stored_axial(axial: i32) -> u32
     }
 }
 
-pub fn column_of(fields: &[u32]) -> Column
+fn column_of(fields: &[u32]) -> Column
     requires { ⌜ 29 ≤ length (now fields) ⌝ }
     ensures { λ r. ⌜ r ≡ columnOf (now (fields .entry)) ⌝ }
 {
@@ -48,7 +48,7 @@ pub fn column_of(fields: &[u32]) -> Column
     }
 }
 
-pub fn bolts_of(fields: &[u32]) -> Bolts
+fn bolts_of(fields: &[u32]) -> Bolts
     requires { ⌜ 29 ≤ length (now fields) ⌝ }
     ensures { λ r. ⌜ r ≡ boltsOf (now (fields .entry)) ⌝ }
 {
@@ -58,7 +58,7 @@ pub fn bolts_of(fields: &[u32]) -> Bolts
     }
 }
 
-pub fn beam_of(fields: &[u32]) -> Beam
+fn beam_of(fields: &[u32]) -> Beam
     requires { ⌜ 29 ≤ length (now fields) ⌝ }
     ensures { λ r. ⌜ r ≡ beamOf (now (fields .entry)) ⌝ }
 {
@@ -71,7 +71,7 @@ pub fn beam_of(fields: &[u32]) -> Beam
     }
 }
 
-pub fn plate_of(fields: &[u32]) -> Plate
+fn plate_of(fields: &[u32]) -> Plate
     requires { ⌜ 29 ≤ length (now fields) ⌝ }
     ensures { λ r. ⌜ r ≡ plateOf (now (fields .entry)) ⌝ }
 {
@@ -82,7 +82,7 @@ pub fn plate_of(fields: &[u32]) -> Plate
     }
 }
 
-pub fn layout_of(fields: &[u32]) -> Layout
+fn layout_of(fields: &[u32]) -> Layout
     requires { ⌜ 29 ≤ length (now fields) ⌝ }
     ensures { λ r. ⌜ r ≡ layoutOf (now (fields .entry)) ⌝ }
 {
@@ -93,7 +93,7 @@ pub fn layout_of(fields: &[u32]) -> Layout
     }
 }
 
-pub fn welds_of(fields: &[u32]) -> Welds
+fn welds_of(fields: &[u32]) -> Welds
     requires { ⌜ 29 ≤ length (now fields) ⌝ }
     ensures { λ r. ⌜ r ≡ weldsOf (now (fields .entry)) ⌝ }
 {

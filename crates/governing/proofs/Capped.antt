@@ -9,8 +9,8 @@ use Rattle.joint.specs.Axial.{axialForce}
 use Rattle.joint.specs.declared.AxialForce.the-variants.{Compression, Tension}
 use Rattle.joint.specs.declared.Loads.{Loads}
 use Rattle.joint.proofs.Axial.{is-compression, is-tension}
-use Rattle.governing.specs.Cap.{tensionCap, overCompressed, newtonsOf, capCase}
-use Rattle.governing.specs.declared.Cap.{Cap}
+use Rattle.governing.specs.Cap.{tensionCap, overCompressed, newtonsOf}
+use Rattle.governing.specs.Answers.{capCase}
 use Rattle.governing.specs.declared.Cap.the-variants.{Newtons, Exceeded}
 
 less : (force n : ℕ) → n ≤ force → newtonsOf (pos force -ℤ pos n) ≡ force - n
@@ -30,4 +30,5 @@ module _ (loads : Loads) (force : ℕ) where
   unfolding capCase tensionCap overCompressed
   pulled n e =
       let m = is-tension (loads .axial) n e in
-      ap (λ k. Newtons (force + k)) (m .1) ∙ ap (λ axial. capCase (record { axial = axial; shear = loads .shear; moment = loads .moment }) force) (sym (m .2))
+      ap (λ k. Newtons (force + k)) (m .1)
+      ∙ ap (λ axial. capCase (record { axial = axial; shear = loads .shear; moment = loads .moment }) force) (sym (m .2))

@@ -13,7 +13,8 @@ force-lesser : (first second : CompressionCheck) → forceOf (lesser first secon
 unfolding lesser
 force-lesser first second = either (leb (forceOf first) (forceOf second)) refl
   where
-    either : (test : Bool) → leb (forceOf first) (forceOf second) ≡ test → forceOf (cond test first second) ≡ min (forceOf first) (forceOf second)
+    either : (test : Bool) → leb (forceOf first) (forceOf second) ≡ test
+        → forceOf (cond test first second) ≡ min (forceOf first) (forceOf second)
     either true e = omega (arith, leb-true (forceOf first) (forceOf second) e)
     either false e = omega (arith, leb-false (forceOf first) (forceOf second) e)
 

@@ -1,3 +1,5 @@
--- The compression check that governs (`Governing`), the tension cap and refusal 15 (`Cap`).
+-- Document 01's governing check (`Governing`), tension cap and refusal 15 (`Cap`). What serves the code: what it answers for the cap
+-- (`Answers`).
 pub mod Governing
 pub mod Cap
+pub mod Answers

@@ -2,9 +2,9 @@
 ghost use mathlib.Core.Path.{_≡_};
 ghost use Prim.Native.Nat.{_≤_};
 ghost use Rattle.joint.specs.InRange.{LoadsInRange};
-ghost use Rattle.compression.specs.Compression.{mostBearing};
+ghost use Rattle.compression.specs.InRange.{mostBearing};
 ghost use Rattle.governing.specs.Governing.{forceOf, lesser, governingCheck};
-ghost use Rattle.governing.specs.Cap.{capCase};
+ghost use Rattle.governing.specs.Answers.{capCase};
 use compression::Resistances;
 use joint::AxialForce;
 use joint::Loads;

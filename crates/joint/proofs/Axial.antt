@@ -29,4 +29,4 @@ size-of-tension z n e = let m = is-tension z n e in m .1 ∙ sym (ap natAbs (m .
 -- a force that reached a call as its bits is read back as itself, so the case that the call found is the force's
 pub case-of : (z : ℤ) → toZ w32 (ofZ w32 z) ≡ z → (found case : AxialForce) → found ≡ axialForce (toZ w32 (ofZ w32 z)) → found ≡ case
     → axialForce z ≡ case
-case-of z back found case told is = ap axialForce (sym back) ∙ sym told ∙ is
+case-of z back found case e is = ap axialForce (sym back) ∙ sym e ∙ is

@@ -1,3 +1,5 @@
+-- The laws of field checking (`Fields`), of fields in range (`InRange`), and of N by its sign (`Signs` of the machine's number, `Axial` of
+-- the definition). They assume nothing.
 pub mod Fields
 pub mod InRange
 pub mod Signs

@@ -2,14 +2,14 @@
 -- after it an end of that. Assumes nothing.
 use Prim.Native.Nat.{ℕ, _<_}
 use mathlib.Core.Path.{_≡_}
-use mathlib.Core.List.{List, _∷_}
+use mathlib.Core.List.{List}
 use mathlib.Core.Bool.{cond}
 use native.Mathlib.Omega.{arith}
 use lib.ListN.{length}
 use Rattle.arithmetic.specs.Range.{within}
 use Rattle.joint.specs.Ranges.{rowCounts}
 use Rattle.joint.specs.declared.Joint.{Joint}
-use Rattle.numbers.specs.Parse.{got, refused, andThen}
+use Rattle.numbers.specs.Parse.{got, refused}
 use Rattle.numbers.specs.Number.{readNumber}
 use Rattle.numbers.specs.Run.{readNumbers}
 use Rattle.numbers.proofs.Parsing.{then-got}

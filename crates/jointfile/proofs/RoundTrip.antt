@@ -170,7 +170,8 @@ unfolding readOthers
 took-others bytes rows bytes₁ joint left all first count e =
     let (others, bytes₂, read, e₁) =
     then-got (readNumbers 28 bytes₁)
-    (λ others rest. andThen (readNumbers rows rest) (λ levers end. got (jointOf (rows ∷ others) (eightPlaces levers)) end)) joint left e in
+    (λ others rest. andThen (readNumbers rows rest) (λ levers end. got (jointOf (rows ∷ others) (eightPlaces levers)) end))
+    joint left e in
     let (levers, end, read′, e₂) =
     then-got (readNumbers rows bytes₂) (λ levers end. got (jointOf (rows ∷ others) (eightPlaces levers)) end) joint left e₁ in
     let form = stored-read bytes rows bytes₁ all first in

@@ -1,5 +1,5 @@
--- Document 01's own, what a joint file is: reading one (`File`) and writing one (`Write`). Its numbers are those of the crate `numbers`, and
--- their order is that of `fields`.
+-- Document 01's own, what a joint file is: reading one (`File`) and writing one (`Write`). Its numbers are those of the crate `numbers`,
+-- and their order is that of `fields`.
 pub mod File
 pub mod Write
 -- What serves the code and the laws: what its answers mean, what its steps require (`Answers`).

@@ -1,7 +1,7 @@
 -- Reading leaves an end of the bytes, whatever they are, bytes or other numbers: a number takes one off the front after the other and at
 -- least one, and numbers one after another leave an end of an end. By induction over the bytes, and over the count. Assumes nothing.
 use Prim.Native.Nat.{ℕ, zero, suc, _+_, _-_, _≤_, _<_}
-use mathlib.Core.Path.{_≡_, refl, sym, ap, _∙_}
+use mathlib.Core.Path.{_≡_, ap, _∙_}
 use mathlib.Core.List.{List, [], _∷_}
 use mathlib.Core.Bool.{Bool, true, false, cond, _&&_}
 use native.Mathlib.Omega.{arith}

@@ -1,2 +1,2 @@
--- Distances about the bolts: m, e and mx.
+-- Document 01's distances about the bolts: m, e, mx and s.
 pub mod Spacing

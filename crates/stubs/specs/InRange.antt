@@ -1,43 +1,44 @@
 -- How large the figures of a T-stub and a web are that the code is called with: each bound by its name, and what each function asks.
 -- Assumes nothing.
-use Prim.Native.Nat.{ℕ, _≤_}
+use Prim.Native.Nat.{ℕ, _+_, _*_, _/_, _≤_}
 use Rattle.arithmetic.specs.Range.{Range, Within, _to_}
-use Rattle.joint.specs.Ranges.{rowCounts, plateWidths, gauges, edges, levers}
+use Rattle.joint.specs.Ranges.{rowCounts, flanges, webs, plateWidths, gauges, edges, alphas, levers}
 use Rattle.strength.specs.InRange.{yieldStrengths, mostThickness, mostPairTension}
 use Rattle.stubs.specs.declared.Stub.{Stub}
 use Rattle.stubs.specs.declared.Lengths.{Lengths}
 
--- m of the column flange and the plate, and mx
-abbrev pub boltDistances : Range
-boltDistances = 500 to 15000
-
-abbrev pub extensionDistances : Range
-extensionDistances = 500 to 202500
-
--- e of both
-abbrev pub edgeDistances : Range
-edgeDistances = 1000 to 30000
-
--- the rows of a group, and its rise s: the greatest lever is that of a first row
+-- the rows of a group, and its rise s, which is at most the lever of a first row
 abbrev pub groupRows : Range
 groupRows = 0 to rowCounts .high
 
 abbrev pub rises : Range
 rises = 0 to levers 1 0 .high
 
--- no yield-line pattern of one row is longer, and with the rise no effective length
+-- m of the column flange and the plate: refusal 13's 500, and half the gauge
+abbrev pub boltDistances : Range
+boltDistances = 500 to 5 * gauges .high
+
+-- mx: 500 again, and the greatest lever with the thickest flange
+abbrev pub extensionDistances : Range
+extensionDistances = 500 to 5 * (2 * rises .high + flanges .high)
+
+-- e: refusal 13's 1000, and half the width
+abbrev pub edgeDistances : Range
+edgeDistances = 1000 to 5 * plateWidths .high
+
+-- no yield-line pattern of one row is longer, that by alpha the longest; and with the rise no effective length
 abbrev pub mostPattern : ℕ
-mostPattern = 120000
+mostPattern = alphas .high * boltDistances .high / 100
 
 abbrev pub mostLength : ℕ
-mostLength = 520000
+mostLength = mostPattern + 20 * rises .high
 
 -- no 173g is above this, and no web's thickness times its strength
 abbrev pub mostWebGauge : ℕ
-mostWebGauge = 519000
+mostWebGauge = 173 * gauges .high
 
 abbrev pub mostWeb : ℕ
-mostWeb = 142000
+mostWeb = webs .high * yieldStrengths .high
 
 -- ---- what each function asks
 
@@ -69,10 +70,10 @@ pub record WebParts (gauge s web : ℕ) : Type 0 where
 -- ---- what comes of the parts
 
 pub record StubWithin (stub : Stub) : Type 0 where
-  pub flexure : Within (0 to 88750000) (stub .flexure)
-  pub yielding : Within (50000 to 20250000) (stub .yielding)
-  pub prying : Within (0 to 4712400000000) (stub .prying)
-  pub breaking : Within (100000 to 46500000) (stub .breaking)
+  pub flexure : Within (0 to mostThickness * mostThickness * yieldStrengths .high) (stub .flexure)
+  pub yielding : Within (100 * extensionDistances .low to 100 * extensionDistances .high) (stub .yielding)
+  pub prying : Within (0 to 200 * edgeDistances .high * mostPairTension) (stub .prying)
+  pub breaking : Within (200 * extensionDistances .low to 200 * (extensionDistances .high + edgeDistances .high)) (stub .breaking)
 
 pub record LengthsWithin (lengths : Lengths) : Type 0 where
   pub circular : Within (0 to mostPattern) (lengths .circular)

@@ -13,11 +13,11 @@ use Rattle.arithmetic.proofs.Tests.{split}
 use Rattle.joint.specs.Ranges.{rowCounts}
 use Rattle.sharing.specs.Groups.{Table, groupsAbove, groupCount, listed, mostLimit}
 use Rattle.sharing.proofs.Places.{groups-inside, all-groups, group-count-le, one-group-a-place}
-use Rattle.tension.specs.Admissible.{Filled}
+use Rattle.tension.specs.Admissible.{tablePlaces, Filled}
 
 -- How things stand when the groups before the one of rows i to j have their limits.
 pub record FilledTo (n : ℕ) (limit : Table) (entry table : List ℕ) (next i j : ℕ) : Type 0 where
-  pub size : length table ≡ 36
+  pub size : length table ≡ tablePlaces
   pub place : next ≡ groupsAbove n i + (j - i)
   pub rows : i ≤ n
   pub group : i ≤ j
@@ -29,7 +29,7 @@ pub record FilledTo (n : ℕ) (limit : Table) (entry table : List ℕ) (next i j
   pub untouched : (k : ℕ) → next ≤ k → getD table k 0 ≡ getD entry k 0
 
 module _ (n : ℕ) (limit : Table) (few : n ≤ rowCounts .high) (entry : List ℕ) where
-  pub start : length entry ≡ 36 → FilledTo n limit entry entry 0 0 0
+  pub start : length entry ≡ tablePlaces → FilledTo n limit entry entry 0 0 0
   unfolding groupsAbove
   start whole =
       record {
@@ -45,7 +45,7 @@ module _ (n : ℕ) (limit : Table) (few : n ≤ rowCounts .high) (entry : List �
       }
 
   module _ (table : List ℕ) (next i j : ℕ) (f : FilledTo n limit entry table next i j) (more : i < n) where
-    pub next-inside : next < 36
+    pub next-inside : next < tablePlaces
     next-inside = omega (arith, f .place, f .group, f .inside more, groups-inside n i more, group-count-le n few)
 
     module _ (stored : ℕ) (e : stored ≡ limit i j) (small : stored ≤ mostLimit) where
@@ -119,7 +119,7 @@ module _ (n : ℕ) (limit : Table) (few : n ≤ rowCounts .high) (entry : List �
         untouched = λ k later. f .untouched k (omega arith);
       }
 
--- where no place was above the greatest limit, none is
+-- where no place was above the greatest limit, none is: for Work, which lends zeros
 pub none-above : {n : ℕ} {limit : Table} {entry exit : List ℕ} → Filled n limit entry exit
     → ((k : ℕ) → getD entry k 0 ≤ mostLimit) → (k : ℕ) → getD exit k 0 ≤ mostLimit
 none-above {n} f small k =

@@ -9,7 +9,7 @@ use native.Mathlib.Omega.{arith}
 use lib.Dec.{eqb}
 use lib.ListN.{getD}
 use Rattle.arithmetic.specs.Range.{Within, _to_}
-use Rattle.arithmetic.proofs.Bounds.{exactly, atMost, _⊗_, _⊘_, loosen, cond-le}
+use Rattle.arithmetic.proofs.Bounds.{exactly, _⊗_, _⊘_, loosen, cond-le}
 use Rattle.joint.specs.Ranges.{edges}
 use Rattle.joint.specs.declared.Column.{Column}
 use Rattle.joint.specs.declared.Face.{Face}

@@ -19,6 +19,10 @@ use Rattle.stubs.specs.InRange.{boltDistances, extensionDistances, edgeDistance
 use Rattle.tension.specs.InRange.{DimensionsWithin}
 use Rattle.tension.specs.declared.Dimensions.{Dimensions}
 
+-- the places of a lent table: the groups of eight rows
+abbrev pub tablePlaces : ℕ
+tablePlaces = 36
+
 -- What refusals 10, 11 and 13 leave of a face on its column; the limits need nothing of 12.
 pub record Admissible (c : Column) (f : Face) : Type 0 where
   -- refusal 10
@@ -43,7 +47,7 @@ pub record Measured (c : Column) (f : Face) (spacing : Spacing) (steel : SteelSt
 pub record LimitsAsked (c : Column) (f : Face) (spacing : Spacing) (steel : SteelStrengths) (W : ℕ) (table : List ℕ) : Type 0 where
   pub admissible : Admissible c f
   pub measured : Measured c f spacing steel W
-  pub size : length table ≡ 36
+  pub size : length table ≡ tablePlaces
 
 -- What the extension row's limit is worked from: mx, the plate's e, yp and W.
 pub record ExtensionMeasured (f : Face) (mx e yp W : ℕ) : Type 0 where
@@ -65,11 +69,11 @@ pub record Levers (n : ℕ) (levers : List ℕ) : Type 0 where
 pub record FillAsked (d : Dimensions) (n : ℕ) (h table : List ℕ) : Type 0 where
   pub dimensions : DimensionsWithin d
   pub levers : Levers n h
-  pub size : length table ≡ 36
+  pub size : length table ≡ tablePlaces
 
--- What stands in a lent table of 36 places once every group of n rows has its limit there, in Allocate's order.
+-- What stands in a lent table once every group of n rows has its limit there, in Allocate's order.
 pub record Filled (n : ℕ) (limit : Table) (entry exit : List ℕ) : Type 0 where
-  pub size : length exit ≡ 36
+  pub size : length exit ≡ tablePlaces
   pub agrees : (i j : ℕ) → i ≤ j → j < n → listed n exit i j ≡ limit i j
   -- no limit that Allocate refuses
   pub bounded : (k : ℕ) → k < groupCount n → getD exit k 0 ≤ mostLimit

@@ -2,10 +2,10 @@
 -- Assumes nothing.
 use mathlib.Core.Path.{_≡_}
 use mathlib.Core.List.{List}
-use Prim.Native.Nat.{ℕ, _≤_}
+use Prim.Native.Nat.{ℕ, _+_, _*_, _≤_}
 use lib.ListN.{getD}
 use Rattle.arithmetic.specs.Range.{Range, Within, _to_}
-use Rattle.joint.specs.Ranges.{rowCounts, weldLengths, legs, levers}
+use Rattle.joint.specs.Ranges.{rowCounts, shearRowCounts, weldLengths, legs, levers}
 use Rattle.joint.specs.InRange.{ColumnInRange, BeamInRange, PlateInRange, LoadsInRange, FaceInRange}
 use Rattle.joint.specs.declared.Column.{Column}
 use Rattle.joint.specs.declared.Beam.{Beam}
@@ -23,17 +23,17 @@ mostLever = levers 1 0 .high
 
 -- no row's force times its lever is above this, and so no Z of eight rows above the next
 abbrev pub mostRowMoment : ℕ
-mostRowMoment = 80000000000000
+mostRowMoment = mostLimit * mostLever
 
 abbrev pub mostMoment : ℕ
-mostMoment = 640000000000000
+mostMoment = mostRowMoment * rowCounts .high
 
 -- rows with a force; rows without one, the shear rows among them
 abbrev pub pullingCounts : Range
 pullingCounts = 0 to rowCounts .high
 
 abbrev pub idleCounts : Range
-idleCounts = 0 to 16
+idleCounts = 0 to rowCounts .high + shearRowCounts .high
 
 pub record TallyAsked (n : ℕ) (h forces : List ℕ) : Type 0 where
   pub rows : n ≤ rowCounts .high

@@ -90,12 +90,11 @@ fn bearing_of(bolt: BoltStrengths, column: Column, plate: Plate) -> u64
     requires { ⌜ PairAsked bolt column plate ⌝ }
     ensures { λ r. ⌜ r ≡ bearing bolt column plate ⌝ }
 {
-    let on_plate = least(bolt.bearing, strength::steel_bearing(plate.grade));
-    let on_column = least(bolt.bearing, strength::steel_bearing(column.grade));
-    least(
-        pair_bearing(bolt.diameter, plate.thickness, on_plate),
-        pair_bearing(bolt.diameter, column.flange, on_column),
-    )
+    let plate_strength = least(bolt.bearing, strength::steel_bearing(plate.grade));
+    let column_strength = least(bolt.bearing, strength::steel_bearing(column.grade));
+    let on_plate = pair_bearing(bolt.diameter, plate.thickness, plate_strength);
+    let on_column = pair_bearing(bolt.diameter, column.flange, column_strength);
+    least(on_plate, on_column)
 }
 
 // What pairs in rows with a force and pairs in rows without one count together.

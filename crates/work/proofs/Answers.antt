@@ -4,14 +4,13 @@ use mathlib.Core.Path.{_≡_, refl, sym, ap, _∙_}
 use mathlib.Core.Bool.{Bool, true, false, cond, _&&_, _||_}
 use Prim.Native.Nat.{ℕ, zero, suc}
 use native.Mathlib.Omega.{arith}
-use mathlib.Core.List.{List, _∷_}
 use lib.ListN.{length, take}
 use lib.Dec.{ltb}
 use lib.IntN.{ℤ, pos, negsuc, _-ℤ_}
 use lib.Signed.{ltZ}
 use borrow.Author.Tests.{ltb-false, eq-eqb, not-true}
-use Rattle.arithmetic.specs.Checks.{Check, firstFailing}
-use Rattle.arithmetic.proofs.Checks.{held}
+use Rattle.arithmetic.specs.Checks.{firstFailing}
+use Rattle.arithmetic.proofs.Checks.{numbered, positive, numbered-holds}
 use Rattle.joint.specs.InRange.{ColumnInRange, FaceInRange}
 use Rattle.joint.specs.declared.Column.{Column}
 use Rattle.joint.specs.declared.Face.{Face}
@@ -21,10 +20,11 @@ use Rattle.spacing.specs.Spacing.{spacingOf}
 use Rattle.tension.specs.Admissible.{Admissible}
 use Rattle.refusals.specs.Refusals.{leversFall, tooTight}
 use Rattle.refusals.proofs.Rows.{falls}
-use Rattle.governing.specs.Cap.{tensionCap, overCompressed, newtonsOf, capCase}
+use Rattle.governing.specs.Cap.{tensionCap, overCompressed, newtonsOf}
+use Rattle.governing.specs.Answers.{capCase}
 use Rattle.governing.specs.declared.Cap.the-variants.{Newtons, Exceeded}
 use Rattle.outcome.specs.declared.Outcome.{Outcome}
-use Rattle.work.specs.Work.{refusedBy, refusals}
+use Rattle.work.specs.Work.{refusedBy, refusals, completed, resultOf, workedFace}
 use Rattle.work.specs.declared.Admission.the-variants.{Admitted, Refused}
 
 neither : (a b : Bool) → (a || b) ≡ false → (a ≡ false) × (b ≡ false)
@@ -66,14 +66,12 @@ cap-newtons loads force under = by-sign (loads .axial) under
 -- the same of a face that is admitted
 pub admitted : (column : Column) (bolt : BoltStrengths) (face : Face) → ColumnInRange column → FaceInRange face → length (face .levers) ≡ 8
     → firstFailing Admitted Refused (take 4 (refusals column bolt face)) ≡ Admitted → Admissible column face
-unfolding refusals
+unfolding refusals numbered positive
 admitted column bolt face c f eight e =
-    let p11 = held Admitted Refused 11 _ _ Admitted e (apart 11) in
-    let p12 = held Admitted Refused 12 _ _ Admitted (p11 .1) (apart 12) in
-    let p13 = held Admitted Refused 13 _ _ Admitted (p12 .1) (apart 13) in
-    admissible column face c f eight (p11 .0) (not-true _ (p13 .0))
+    let all = numbered-holds Admitted Refused Admitted apart (take 4 (refusals column bolt face)) tt e .0 in
+    admissible column face c f eight (all 11) (not-true _ (all 13))
   where
-    apart : (number : ℕ) → Refused number ≡ Admitted → ⊥
+    apart : (number : ℕ) → Refused (suc number) ≡ Admitted → ⊥
     apart number same = let never : _≡_ {A = ℕ} 0 1 = cc in absurd (omega arith)
 
 -- which way 15 goes, by the cap's case
@@ -99,10 +97,12 @@ within-cap loads force cap e = by-test (overCompressed loads force) e
 pub refusal-is : (number field : ℕ) (answer : Outcome) → refusedBy number field ≡ answer → answer .refusal .number ≡ 0 → number ≡ 0
 refusal-is number field answer e none = ap (λ a. a .refusal .number) e ∙ none
 
--- where the answer is no refusal the first test holds, and the others decide
-pub passes : (number : ℕ) (test : Bool) (result : Outcome) (checks : List Check) (answer : Outcome)
-    → firstFailing result (λ n. refusedBy n 0) ((suc number, test) ∷ checks) ≡ answer → answer .refusal .number ≡ 0
-    → (test ≡ true) × (firstFailing result (λ n. refusedBy n 0) checks ≡ answer)
-passes number test result checks answer e none =
-    held result (λ n. refusedBy n 0) (suc number) test checks answer e
-    (λ refused. let never = refusal-is (suc number) 0 answer refused none in absurd (omega arith))
+-- where a face is not refused every test holds, and the answer is the whole result
+pub not-refused : (column : Column) (bolt : BoltStrengths) (face : Face) (answer : Outcome) → workedFace column bolt face ≡ answer
+    → answer .refusal .number ≡ 0
+    → ((number : ℕ) → numbered number (refusals column bolt face) ≡ true) × (completed (resultOf column bolt face) ≡ answer)
+unfolding workedFace refusals positive
+not-refused column bolt face answer e none =
+    numbered-holds (completed (resultOf column bolt face)) (λ number. refusedBy number 0) answer
+    (λ number refused. let never = refusal-is (suc number) 0 answer refused none in absurd (omega arith))
+    (refusals column bolt face) tt e

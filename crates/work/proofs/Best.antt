@@ -11,7 +11,7 @@ use lib.Seq.{length-take-le, getD-take}
 use lib.Dec.{leb→le, le→leb}
 use lib.IntN.{pos}
 use borrow.Author.Tests.{not-true}
-use Rattle.arithmetic.proofs.Checks.{none-left}
+use Rattle.arithmetic.proofs.Checks.{numbered}
 use Rattle.joint.specs.Fields.{fieldCheck}
 use Rattle.joint.specs.declared.Joint.{Joint}
 use Rattle.joint.specs.declared.Column.{Column}
@@ -36,7 +36,7 @@ use Rattle.work.specs.OneFace.{rowsOf, leversOf, limitOf, capOf, forcesO
 use Rattle.work.specs.Work.{refusals, resultOf, workedFace, workedBy, worked}
 use Rattle.work.specs.Demand.{CompetesFor, Demand3, Demand3Of, programsList}
 use Rattle.work.proofs.Forces.{rows-kept}
-use Rattle.work.proofs.Answers.{admissible, cap-newtons, refusal-is, passes}
+use Rattle.work.proofs.Answers.{admissible, cap-newtons, refusal-is, not-refused}
 
 module _ (column : Column) (bolt : BoltStrengths) (face : Face) (a : Admissible column face)
     (eight : length (face .levers) ≡ 8) (cap : capOf column face ≡ pos (newtonsOf (capOf column face))) where
@@ -106,15 +106,11 @@ module _ (column : Column) (bolt : BoltStrengths) (face : Face) (a : Admissible 
 of-face : (column : Column) (bolt : BoltStrengths) (face : Face) → ColumnInRange column → FaceInRange face → length (face .levers) ≡ 8
     → (answer : Outcome) → workedFace column bolt face ≡ answer → answer .refusal .number ≡ 0
     → Demand3 column bolt face (answer .result .forces) (answer .result .verdicts .bending)
-unfolding workedFace refusals capOf
+unfolding refusals numbered capOf
 of-face column bolt face c f eight answer e none =
-    let p11 = passes 10 _ _ _ answer e none in
-    let p12 = passes 11 _ _ _ answer (p11 .1) none in
-    let p13 = passes 12 _ _ _ answer (p12 .1) none in
-    let p14 = passes 13 _ _ _ answer (p13 .1) none in
-    let p15 = passes 14 _ _ _ answer (p14 .1) none in
-    let a = admissible column face c f eight (p11 .0) (not-true _ (p13 .0)) in
-    rw (sym (p15 .1) ∙ none-left _ _) (demand column bolt face a eight (cap-newtons _ _ (not-true _ (p15 .0))))
+    let all = not-refused column bolt face answer e none in
+    let a = admissible column face c f eight (all .0 11) (not-true _ (all .0 13)) in
+    rw (sym (all .1)) (demand column bolt face a eight (cap-newtons _ _ (not-true _ (all .0 15))))
 
 -- Demand 3: for every joint whose answer is no refusal. A joint in the machine has eight levers.
 pub worked-demand : (joint : Joint) → length (joint .face .levers) ≡ 8 → (answer : Outcome) → worked joint ≡ answer

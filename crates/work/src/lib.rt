@@ -5,7 +5,7 @@ ghost use Prim.Native.Nat.{ℕ, _≤_};
 ghost use lib.ListN.{length, getD, take, drop};
 ghost use Rattle.arithmetic.specs.Checks.{firstFailing};
 ghost use Rattle.joint.specs.Places.{eightPlaces};
-ghost use Rattle.compression.specs.Compression.{PartsInRange, mostBearing};
+ghost use Rattle.compression.specs.InRange.{PartsInRange, mostBearing};
 ghost use Rattle.governing.specs.Governing.{forceOf};
 ghost use Rattle.sharing.specs.Groups.{withCap, mostLimit};
 ghost use Rattle.sharing.specs.Sharing.{shared};

@@ -17,24 +17,28 @@ use Rattle.compression.specs.Root.{BitLength, Guess}
 abbrev above : ℕ → ℕ → Bool
 above k guess = leb (2 ^ (k + 1)) ((guess + 1) * (guess + 1))
 
-abbrev small : ℕ → Bool
-small guess = ltb guess (2 ^ 32)
+-- it fits half a word, whatever its place
+abbrev pub small : ℕ → ℕ → Bool
+small k guess = ltb guess (2 ^ 32)
 
 abbrev pub safe : ℕ → ℕ → Bool
-safe k guess = above k guess && small guess
+safe k guess = above k guess && small k guess
 
--- so the guess for x's length is safe for x
-pub stored : (table : List ℕ) → length table ≡ 64 → T (every safe 0 table) → (x n : ℕ) → BitLength x n → Guess x (getD table (n - 1) 0)
-stored table whole t x n l =
-    let k : ℕ = n - 1 in
-    let guess : ℕ = getD table k 0 in
-    let in-table : k < length table = omega (arith, l .some, l .most) in
-    let both = and-yes (above k guess) (small guess) (at safe table t k in-table) in
-    let from-one : n ≡ k + 1 = omega (arith, l .some) in
-    record {
-      above = lt-of-lt-of-le (rw from-one at (l .high)) (leb→le (2 ^ (k + 1)) ((guess + 1) * (guess + 1)) (both .0));
-      small = ltb→lt guess (2 ^ 32) (both .1);
-    }
+module _ (table : List ℕ) (whole : length table ≡ 64) (x n : ℕ) (l : BitLength x n) where
+  in-table : n - 1 < length table
+  in-table = omega (arith, l .some, l .most)
 
-pub stored-small : (table : List ℕ) → length table ≡ 64 → T (every safe 0 table) → (x n : ℕ) → BitLength x n → getD table (n - 1) 0 < 2 ^ 32
-stored-small table whole t x n l = stored table whole t x n l .small
+  -- the guess for x's length is safe for x
+  pub stored : T (every safe 0 table) → Guess x (getD table (n - 1) 0)
+  stored t =
+      let k : ℕ = n - 1 in
+      let guess : ℕ = getD table k 0 in
+      let both = and-yes (above k guess) (small k guess) (at safe table t k in-table) in
+      let from-one : n ≡ k + 1 = omega (arith, l .some) in
+      record {
+        above = lt-of-lt-of-le (rw from-one at (l .high)) (leb→le (2 ^ (k + 1)) ((guess + 1) * (guess + 1)) (both .0));
+        small = ltb→lt guess (2 ^ 32) (both .1);
+      }
+
+  pub stored-small : T (every small 0 table) → getD table (n - 1) 0 < 2 ^ 32
+  stored-small t = ltb→lt (getD table (n - 1) 0) (2 ^ 32) (at small table t (n - 1) in-table)

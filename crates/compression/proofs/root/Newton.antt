@@ -2,7 +2,8 @@
 -- numbers isn't below the root of their product; and a number between the two bounds is the root. Assumes nothing.
 use mathlib.Core.Path.{_≡_}
 use Prim.Native.Nat.{ℕ, zero, suc, _+_, _*_, _/_, _^_, _≤_, _<_, zero-le}
-use native.Mathlib.Nat.{lt-of-lt-of-le, lt-of-not-le, lt-suc-self, le-dest, mul-comm, mul-add, mul-le-mul, mul-le-mul-left, mul-le-mul-right, div-lt-iff-lt-mul}
+use native.Mathlib.Nat.{lt-of-lt-of-le, lt-of-not-le, lt-suc-self, le-dest, div-lt-iff-lt-mul}
+use native.Mathlib.Nat.{mul-comm, mul-add, mul-le-mul, mul-le-mul-left, mul-le-mul-right}
 use native.Mathlib.Decide.{decLe}
 use native.Mathlib.Omega.{arith}
 use Rattle.arithmetic.specs.Greatest.{Greatest}
@@ -53,7 +54,8 @@ module _ (x : ℕ) (small : x < 2 ^ 64) where
 
   -- only the root has its square at most x, and the next square above
   pub is-root : (r : ℕ) → r * r ≤ x → x < (r + 1) * (r + 1) → r ≡ squareRoot x
-  is-root r h k = only-one {Passes = λ (v : ℕ). v * v ≤ x} (record { passes = h; greatest = λ v p. no-more v p (decLe v r) }) root-greatest
+  is-root r h k =
+      only-one {Passes = λ (v : ℕ). v * v ≤ x} (record { passes = h; greatest = λ v p. no-more v p (decLe v r) }) root-greatest
     where
       no-more : (v : ℕ) → v * v ≤ x → Dec (v ≤ r) → v ≤ r
       no-more v p (yes q) = q

@@ -11,10 +11,10 @@ cast-result : tie.Need-cast-result
 cast-result c = search needs
 
 mul-result : tie.Need-mul-result
-mul-result c = let r = c .before .pre in fits (r .0 ⊗ r .2 .web) tt
+mul-result c = let r = c .before .pre in fits (r .bearing-length ⊗ r .column .web) tt
 
 mul-result-2 : tie.Need-mul-result-2
-mul-result-2 c = let r = c .before .pre in fits (r .0 ⊗ r .2 .web ⊗ r .1) tt
+mul-result-2 c = let r = c .before .pre in fits (r .bearing-length ⊗ r .column .web ⊗ r .strength) tt
 
 returns : tie.Need-returns
 unfolding webBearing

@@ -2,30 +2,55 @@
 -- The ranges only just keep the limit within 64 bits.
 -- Assumes nothing.
 use borrow.Author.Needs.{needs}
-use mathlib.Core.Path.{ap, sym, _∙_}
+use mathlib.Core.Path.{_≡_, ap, sym, _∙_}
+use Prim.Native.Nat.{ℕ, _*_}
+use Rattle.arithmetic.specs.Range.{Within, _to_}
 use Rattle.arithmetic.proofs.Bounds.{exactly, _⊗_, fits}
-use Rattle.compression.specs.Root.{rootOf}
+use Rattle.joint.specs.Ranges.{webs}
+use Rattle.joint.specs.declared.Column.{Column}
+use Rattle.compression.specs.Compression.{webBuckling}
+use Rattle.compression.specs.InRange.{WebParts}
+use Rattle.compression.specs.Root.{rootMeaning}
 use Rattle.compression.proofs.Buckling.{buckling-root}
 use Rattle.compression.proofs.web_buckling.Statement.{statement}
 use Rattle.compression.proofs.web_buckling.Tie as tie
+
+-- ---- the products, as the ranges bound them
+
+squared : {b yc : ℕ} {column : Column} → WebParts b yc column
+    → Within (webs .low * webs .low to webs .high * webs .high) (column .web * column .web)
+squared r = r .column .web ⊗ r .column .web
+
+-- ---- back to the start, from the root that was found
+
+abbrev from-root : tie.After-square-root → tie.Start
+from-root c = c .before .before .before
+
+found-root : (c : tie.After-square-root)
+    → (let a = from-root c .args in rootMeaning (c .square-root .result) ≡ webBuckling (a .length) (a .strength) (a .column))
+found-root c =
+    let a = from-root c .args in
+    buckling-root (a .length) (a .strength) (a .column) (from-root c .pre) (c .square-root .result) (c .square-root .ensures)
+
+-- ---- the needs
 
 cast-web : tie.Need-cast-web
 cast-web c = search needs
 
 mul-squared : tie.Need-mul-squared
-mul-squared c = let r = c .before .pre in fits (r .2 .web ⊗ r .2 .web) tt
+mul-squared c = fits (squared (c .before .pre)) tt
 
 mul-limit : tie.Need-mul-limit
 mul-limit c = search needs
 
 mul-limit-2 : tie.Need-mul-limit-2
-mul-limit-2 c = let r = c .before .pre in fits (exactly 275 ⊗ r .0 ⊗ r .1) tt
+mul-limit-2 c = let r = c .before .pre in fits (exactly 275 ⊗ r .bearing-length ⊗ r .strength) tt
 
 mul-limit-3 : tie.Need-mul-limit-3
-mul-limit-3 c = let r = c .before .pre in fits (exactly 275 ⊗ r .0 ⊗ r .1 ⊗ (r .2 .web ⊗ r .2 .web)) tt
+mul-limit-3 c = let r = c .before .pre in fits (exactly 275 ⊗ r .bearing-length ⊗ r .strength ⊗ squared r) tt
 
 mul-limit-4 : tie.Need-mul-limit-4
-mul-limit-4 c = let r = c .before .pre in fits (exactly 275 ⊗ r .0 ⊗ r .1 ⊗ (r .2 .web ⊗ r .2 .web) ⊗ (r .2 .web ⊗ r .2 .web)) tt
+mul-limit-4 c = let r = c .before .pre in fits (exactly 275 ⊗ r .bearing-length ⊗ r .strength ⊗ squared r ⊗ squared r) tt
 
 cast-square-root : tie.Need-cast-square-root
 cast-square-root c = search needs
@@ -46,22 +71,10 @@ enum-told : tie.Need-enum-told
 enum-told c = search needs
 
 returns : tie.Need-returns
-returns c =
-    let at-root = c .before .before .before in
-    let at-start = at-root .before .before .before in
-    let a = at-start .args in
-    let r = at-start .pre in
-    sym (ap rootOf (c .before .found .given .1))
-    ∙ buckling-root (a .length) (a .strength) (a .column) (r .0) (r .1) (r .2) (at-root .square-root .result) (at-root .square-root .ensures)
+returns c = sym (ap rootMeaning (c .before .found .given .1)) ∙ found-root (c .before .before .before)
 
 returns-2 : tie.Need-returns-2
-returns-2 c =
-    let at-root = c .before .before in
-    let at-start = at-root .before .before .before in
-    let a = at-start .args in
-    let r = at-start .pre in
-    sym (ap rootOf (c .enum-told .given .1))
-    ∙ buckling-root (a .length) (a .strength) (a .column) (r .0) (r .1) (r .2) (at-root .square-root .result) (at-root .square-root .ensures)
+returns-2 c = sym (ap rootMeaning (c .enum-told .given .1)) ∙ found-root (c .before .before)
 
 pub web-buckling-spec : {M : Type 1} → statement M
 web-buckling-spec =

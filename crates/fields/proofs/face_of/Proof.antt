@@ -29,19 +29,25 @@ shared-slice-read-t12 c = search needs
 loads-of-requires : tie.Need-loads-of-requires
 loads-of-requires c κs = search needs
 
+-- the call's start, from where the beam's part is made
+abbrev start : tie.After-shared-slice-known3 → tie.Start
+start c = c .before .before .before
+
 returns : tie.Need-returns
 returns c =
-    let weld = c .before .before in
-    let beam = weld .before .before .before in
-    let args = beam .before .before .before .before .args in
+    let welds = c .before .before in
+    let layout = welds .before in
+    let plate = layout .before in
+    let beam = plate .before in
+    let args = start (beam .before) .args in
     let face = faceOf (now (args .fields)) (args .levers) in
     λ i. record {
       rows = face .rows;
       extended = face .extended;
       beam = beam .beam-of .ensures i;
-      plate = weld .before .before .plate-of .ensures i;
-      layout = weld .before .layout-of .ensures i;
-      welds = weld .welds-of .ensures i;
+      plate = plate .plate-of .ensures i;
+      layout = layout .layout-of .ensures i;
+      welds = welds .welds-of .ensures i;
       «shear_rows» = face .«shear_rows»;
       loads = c .loads-of .ensures i;
       levers = face .levers;

@@ -23,10 +23,11 @@ shared-slice-read-t8 c = search needs
 
 returns : tie.Need-returns
 returns c =
-    let axial = c .before .before .axial-of .result in
+    let read = c .before .before in
+    let axial = read .axial-of .result in
     let back : toZ w32 (ofZ w32 axial) ≡ axial = search needs in
-    let is = back ∙ c .before .before .axial-of .ensures in
-    let fields = now (c .before .before .before .before .before .args .fields) in
+    let is = back ∙ read .axial-of .ensures in
+    let fields = now (read .before .before .before .args .fields) in
     λ i. record { axial = is i; shear = getD fields 27 0; moment = getD fields 28 0 }
 
 pub loads-of-spec : {M : Type 1} → statement M

@@ -8,12 +8,25 @@ use borrow.Author.Needs.{needs}
 use Rattle.governing.proofs.tension_cap.Statement.{statement}
 use Rattle.governing.proofs.tension_cap.Tie as tie
 
+-- ---- back to the start, from the places where the sign of N is known
+
+abbrev from-axial : tie.After-axial-force → tie.Start
+from-axial c = c .before .before
+
+abbrev from-compression : tie.After-known-told → tie.Start
+from-compression c = from-axial (c .before .before .before)
+
+abbrev from-tension : tie.After-known-told2 → tie.Start
+from-tension c = from-axial (c .before .before .before)
+
 -- which way N goes
-pushes : (c : tie.After-known-told) → axialForce (c .before .before .before .before .before .args .loads .axial) ≡ Compression (c .before .axial .given .0 .0)
+pushes : (c : tie.After-known-told) → axialForce (from-compression c .args .loads .axial) ≡ Compression (c .before .axial .given .0 .0)
 pushes c = case-of _ (search needs) _ _ (c .before .before .before .axial-force .ensures) (c .before .axial .given .1)
 
-pulls : (c : tie.After-known-told2) → axialForce (c .before .before .before .before .before .args .loads .axial) ≡ Tension (c .before .axial2 .given .0 .0)
+pulls : (c : tie.After-known-told2) → axialForce (from-tension c .args .loads .axial) ≡ Tension (c .before .axial2 .given .0 .0)
 pulls c = case-of _ (search needs) _ _ (c .before .before .before .axial-force .ensures) (c .before .axial2 .given .1)
+
+-- ---- the needs
 
 axial-force-requires : tie.Need-axial-force-requires
 axial-force-requires c κs = search needs
@@ -41,18 +54,18 @@ add-t13 c = search needs
 
 returns : tie.Need-returns
 returns c =
-    let s = c .before .before .before .before .before .before in
-    exceeded (s .args .loads) (s .args .force) _ (pushes (c .before)) (c .if1 .taken)
+    let a = from-compression (c .before) .args in
+    exceeded (a .loads) (a .force) _ (pushes (c .before)) (c .if1 .taken)
 
 returns-2 : tie.Need-returns-2
 returns-2 c =
-    let s = c .before .before .before .before .before .before in
-    compressed (s .args .loads) (s .args .force) _ (pushes (c .before)) (c .if1 .left)
+    let a = from-compression (c .before) .args in
+    compressed (a .loads) (a .force) _ (pushes (c .before)) (c .if1 .left)
 
 returns-3 : tie.Need-returns-3
 returns-3 c =
-    let s = c .before .before .before .before .before in
-    pulled (s .args .loads) (s .args .force) _ (pulls c)
+    let a = from-tension c .args in
+    pulled (a .loads) (a .force) _ (pulls c)
 
 pub tension-cap-spec : {M : Type 1} → statement M
 tension-cap-spec =

@@ -55,8 +55,11 @@ enum-told-2 c = search needs
 
 -- ---- the places: the turn's head, and the call's arguments
 
+abbrev head : tie.After-chosen Inv-loop μ-loop → tie.At-loop Inv-loop μ-loop
+head c = c .before .before
+
 abbrev turn : tie.After-ranged Inv-loop μ-loop → tie.At-loop Inv-loop μ-loop
-turn c = c .before .before .before .before
+turn c = head (c .before .before)
 
 abbrev start : tie.At-loop Inv-loop μ-loop → tie.Start Inv-loop μ-loop
 start c = c .before

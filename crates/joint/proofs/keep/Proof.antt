@@ -1,7 +1,7 @@
 -- `joint::keep` meets its contract: a field that failed before answers for this one too, and else this one's test does.
 -- Assumes nothing.
-use mathlib.Core.Path.{_≡_, sym, _∙_}
-use mathlib.Core.List.{[], _∷_}
+use mathlib.Core.Path.{sym, _∙_}
+use mathlib.Core.List.{[]}
 use borrow.Author.Needs.{needs}
 use Rattle.arithmetic.proofs.Checks.{holds, fails}
 use Rattle.joint.specs.declared.FieldCheck.the-variants.{AllInRange, Outside}

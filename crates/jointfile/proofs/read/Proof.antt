@@ -50,9 +50,9 @@ no-joint-requires c κs = search needs
 
 returns : tie.Need-returns
 returns c =
-    let told = c .before .before in
-    let read = told .before .before in
-    let refused = told .enum-told .given .1 in
+    let stopped = c .before .before in
+    let read = stopped .before .before in
+    let refused = stopped .enum-told .given .1 in
     let is = c .before .refusal-of .ensures ∙ ap refusalNumber refused in
     c .no-joint .ensures ∙ rw is (ap (answer _) (sym (first-refused (rw refused at (read .number-at .ensures)))))
 

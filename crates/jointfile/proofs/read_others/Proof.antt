@@ -86,9 +86,9 @@ no-joint-requires c κs = search needs
 
 returns : tie.Need-returns
 returns c =
-    let told = c .before .before in
-    let run = told .before .before .before in
-    let refused = told .enum-told .given .1 in
+    let stopped = c .before .before in
+    let run = stopped .before .before .before in
+    let refused = stopped .enum-told .given .1 in
     let is = c .before .run-refusal .ensures ∙ ap runRefusal refused in
     c .no-joint .ensures ∙ rw is (ap (answer _) (sym (others-refused _ _ _ ((rw refused at (run .numbers-at .ensures)) .means))))
 
@@ -115,9 +115,9 @@ no-joint-requires-2 c κs = search needs
 
 returns-2 : tie.Need-returns-2
 returns-2 c =
-    let told = c .before .before in
-    let run = second-run (told .before .before) in
-    let refused = told .enum-told2 .given .1 in
+    let stopped = c .before .before in
+    let run = second-run (stopped .before .before) in
+    let refused = stopped .enum-told2 .given .1 in
     let is = c .before .run-refusal2 .ensures ∙ ap runRefusal refused in
     let stops = levers-refused _ _ _ _ (others-read (first-read run)) _ (levers-run run _ refused) in
     c .no-joint2 .ensures ∙ rw is (ap (answer _) (sym stops))

@@ -15,8 +15,11 @@ use Rattle.jointfile.proofs.write.Tie as tie
 
 -- ---- the places: the call's start, the row count taken, the joint's fields, and what was written
 
+abbrev entered : tie.After-face → tie.Start
+entered c = c .before .before
+
 abbrev start : tie.After-is-row-count → tie.Start
-start c = c .before .before .before .before
+start c = entered (c .before .before)
 
 abbrev counted : tie.After-fields-of → tie.Then1
 counted c = c .before

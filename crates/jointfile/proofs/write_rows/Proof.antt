@@ -13,8 +13,11 @@ use Rattle.jointfile.proofs.write_rows.Tie as tie
 
 -- ---- the places: the call's start, the question about the spare levers, and its answer
 
+abbrev entered : tie.After-levers → tie.Start
+entered c = c .before .before
+
 abbrev start : tie.After-all-zero → tie.Start
-start c = c .before .before .before .before
+start c = entered (c .before .before)
 
 abbrev spare-none : tie.After-put-file-arg → tie.Then1
 spare-none c = c .before .before .before

@@ -23,11 +23,15 @@ extension-distance-requires c κs = search needs
 
 returns : tie.Need-returns
 returns c =
+    let at-plate-edge = c .before in
+    let at-column-edge = at-plate-edge .before in
+    let at-plate = at-column-edge .before in
+    let at-column = at-plate .before in
     λ i. record {
-      column = c .before .before .before .before .bolt-distance .ensures i;
-      plate = c .before .before .before .bolt-distance2 .ensures i;
-      «column_edge» = c .before .before .edge-distance .ensures i;
-      «plate_edge» = c .before .edge-distance2 .ensures i;
+      column = at-column .bolt-distance .ensures i;
+      plate = at-plate .bolt-distance2 .ensures i;
+      «column_edge» = at-column-edge .edge-distance .ensures i;
+      «plate_edge» = at-plate-edge .edge-distance2 .ensures i;
       extension = c .extension-distance .ensures i;
     }
 

@@ -27,7 +27,16 @@ returns-5 c = rw (c .match .keys5)
 
 returns-6 : tie.Need-returns-6
 unfolding boltArea
-returns-6 c = rw (ne-eqb _ 12 (c .match .rest .0 .0 .0 .0 .1), ne-eqb _ 16 (c .match .rest .0 .0 .0 .1), ne-eqb _ 20 (c .match .rest .0 .0 .1), ne-eqb _ 24 (c .match .rest .0 .1), ne-eqb _ 30 (c .match .rest .1))
+returns-6 c =
+    let none = c .match .rest in
+    let none-of-three = none .0 .0 in
+    rw (
+      ne-eqb _ 12 (none-of-three .0 .0 .1),
+      ne-eqb _ 16 (none-of-three .0 .1),
+      ne-eqb _ 20 (none-of-three .1),
+      ne-eqb _ 24 (none .0 .1),
+      ne-eqb _ 30 (none .1),
+    )
 
 pub bolt-area-spec : {M : Type 1} → statement M
 bolt-area-spec = tie.close (tie.spec returns returns-2 returns-3 returns-4 returns-5 returns-6)

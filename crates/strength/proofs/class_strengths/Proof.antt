@@ -38,4 +38,14 @@ returns-4 c =
     c .class-of4 .ensures ∙ rw (ne-eqb _ 46 (none .0 .0 .1), ne-eqb _ 88 (none .0 .1), ne-eqb _ 109 (none .1))
 
 pub class-strengths-spec : {M : Type 1} → statement M
-class-strengths-spec = tie.close (tie.spec class-of-requires class-of-requires-2 class-of-requires-3 class-of-requires-4 returns returns-2 returns-3 returns-4)
+class-strengths-spec =
+    tie.close
+    (tie.spec
+    class-of-requires
+    class-of-requires-2
+    class-of-requires-3
+    class-of-requires-4
+    returns
+    returns-2
+    returns-3
+    returns-4)

@@ -55,13 +55,13 @@ stub-of-requires : tie.Need-stub-of-requires
 stub-of-requires c κs =
     let s = from-edge c in
     column-parts (s .args .column) (s .args .face) (s .pre .0) (s .args .spacing) (s .args .steel) (s .args .pair) (s .pre .1) _
-    (omega (arith, c .least .ensures, sizes-at s .column-edge .high))
+    (omega (arith, c .least .ensures, sizes-at s .column-edge .high, sizes-at s .plate-edge .high))
 
 stub-of-requires-2 : tie.Need-stub-of-requires-2
 stub-of-requires-2 c κs =
     let s = from-column c in
     plate-parts (s .args .column) (s .args .face) (s .pre .0) (s .args .spacing) (s .args .steel) (s .args .pair) (s .pre .1) _
-    (omega (arith, c .before .least .ensures, sizes-at s .column-edge .high))
+    (omega (arith, c .before .least .ensures, sizes-at s .column-edge .high, sizes-at s .plate-edge .high))
 
 lengths-of-requires : tie.Need-lengths-of-requires
 lengths-of-requires c κs = let z = sizes-at (from-plate c) in (z .column, z .column-edge)

@@ -1,7 +1,6 @@
 -- `extension_limit` meets its contract: 0 if flush, else bending of the extension's own stub. Assumes nothing.
 use native.Mathlib.Omega.{arith}
 use borrow.Author.Tests.{eq-eqb, ne-eqb}
-use Rattle.arithmetic.specs.Range.{_to_}
 use Rattle.arithmetic.proofs.Bounds.{atMost, exactly, loosen}
 use Rattle.stubs.specs.InRange.{StubParts, groupRows}
 use Rattle.stubs.proofs.Sizes.{stub-within, extension-length-le}
@@ -12,8 +11,11 @@ use Rattle.tension.proofs.extension_limit.Tie as tie
 
 -- ---- back to the start, from each place on the way of an extended plate
 
+abbrev from-layout : tie.After-layout → tie.Start
+from-layout c = c .before .before
+
 abbrev from-test : tie.Else1 → tie.Start
-from-test c = c .before .before .before .before
+from-test c = from-layout (c .before .before)
 
 abbrev from-end : tie.After-times → tie.Start
 from-end c = from-test (c .before)
@@ -36,7 +38,7 @@ times-requires c κs =
 
 -- the parts of the stub, where the extension's end is worked
 parts : (c : tie.After-times)
-    → StubParts (from-end c .args .m) (c .times .result) (from-end c .args .face .plate .thickness) (from-end c .args .strength) (from-end c .args .pair)
+    → (let a = from-end c .args in StubParts (a .m) (c .times .result) (a .face .plate .thickness) (a .strength) (a .pair))
 parts c =
     let a = from-end c .args in
     extension-parts (a .face) (a .m) (a .plate-edge) (a .strength) (a .pair) (from-end c .pre) (c .before .if1 .left) _ (c .times .ensures)

@@ -5,8 +5,10 @@ use Prim.Native.Nat.{suc, _+_, _-_, _*_, _≤_, _<_}
 use native.Mathlib.Omega.{arith}
 use lib.ListN.{getD}
 use Rattle.arithmetic.proofs.Bounds.{atMost}
+use Rattle.joint.specs.Ranges.{rowCounts}
 use Rattle.sharing.specs.Groups.{mostLimit}
 use Rattle.tension.specs.Dimensions.{limitBy, limitsBy}
+use Rattle.tension.specs.Admissible.{tablePlaces}
 use Rattle.tension.proofs.Worked.{limit-small}
 use Rattle.tension.proofs.Filling.{FilledTo, start, next-inside, along, down, finish}
 use Rattle.tension.proofs.fill_limits.Statement.{statement}
@@ -26,10 +28,10 @@ loop-of c = c .before
 inside : (c : tie.In-loop Inv-loop μ-loop) → loop-of c .loop .last < loop-of c .before .args .rows
 inside c = loop-of c .loop .inv .inside (c .loop-test .taken)
 
-few : (c : tie.In-loop Inv-loop μ-loop) → loop-of c .before .args .rows ≤ 8
+few : (c : tie.In-loop Inv-loop μ-loop) → loop-of c .before .args .rows ≤ rowCounts .high
 few c = loop-of c .before .pre .levers .rows
 
-place-inside : (c : tie.In-loop Inv-loop μ-loop) → loop-of c .loop .next < 36
+place-inside : (c : tie.In-loop Inv-loop μ-loop) → loop-of c .loop .next < tablePlaces
 place-inside c = next-inside _ _ (few c) _ _ _ _ _ (loop-of c .loop .inv) (c .loop-test .taken)
 
 -- ---- the needs

@@ -19,7 +19,9 @@ fill-limits-requires c κs =
     let s = at-dimensions .before in
     let a = s .args in
     record {
-      dimensions = rw (at-dimensions .dimensions-of .ensures) (dimensions-within (a .column) (a .face) (s .pre .admissible) (a .pair) (s .pre .measured .pair));
+      dimensions =
+          rw (at-dimensions .dimensions-of .ensures)
+          (dimensions-within (a .column) (a .face) (s .pre .admissible) (a .pair) (s .pre .measured .pair));
       levers = levers-of (a .column) (a .face) (s .pre .admissible);
       size = s .pre .size;
     }

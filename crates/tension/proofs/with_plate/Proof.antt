@@ -44,15 +44,18 @@ least-requires-2 c κs = search needs
 returns-3 : tie.Need-returns-3
 unfolding plateBy
 returns-3 c =
-    let s = c .before .before .before .before .before .before in
-    let d = s .args .d in
-    simp (le-ltb _ _ (c .before .before .before .before .if1 .left))
+    let at-bending = c .before in
+    let at-length = at-bending .before in
+    let at-side = at-length .before in
+    let at-test = at-side .before in
+    let a = at-test .before .before .args in
+    simp (le-ltb _ _ (at-test .if1 .left))
     (c .least2 .ensures
-    ∙ ap (min (s .args .limit))
-    (c .before .bending .ensures
-    ∙ ap (bendingBy (d .plate) (d .pair) (s .args .rows))
-    (c .before .before .effective-length .ensures
-    ∙ ap (λ side. lengthBy (d .«plate_lengths» .circular) side (s .args .rise)) (c .before .before .before .plate-side .ensures))))
+    ∙ ap (min (a .limit))
+    (at-bending .bending .ensures
+    ∙ ap (bendingBy (a .d .plate) (a .d .pair) (a .rows))
+    (at-length .effective-length .ensures
+    ∙ ap (λ side. lengthBy (a .d .«plate_lengths» .circular) side (a .rise)) (at-side .plate-side .ensures))))
 
 pub with-plate-spec : {M : Type 1} → statement M
 with-plate-spec =

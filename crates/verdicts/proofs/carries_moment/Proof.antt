@@ -44,7 +44,8 @@ pushed : (c : tie.After-known-told)
 pushed c =
     let s = from-compression c in
     let size = size-of-compression (s .args .loads .axial) (c .before .axial .given .0 .0) (compression c) in
-    product-le _ (s .args .beam .depth) (s .args .beam .flange) (omega (arith, size, s .pre .loads .axial .high)) (s .pre .beam .depth .high)
+    product-le _ (s .args .beam .depth) (s .args .beam .flange)
+    (omega (arith, size, s .pre .loads .axial .high)) (s .pre .beam .depth .high)
 
 drawn : (c : tie.After-known-told2)
     → (let beam = from-tension c .args .beam in
@@ -52,7 +53,8 @@ drawn : (c : tie.After-known-told2)
 drawn c =
     let s = from-tension c in
     let size = size-of-tension (s .args .loads .axial) (c .before .axial2 .given .0 .0) (tension c) in
-    product-le _ (s .args .beam .depth) (s .args .beam .flange) (omega (arith, size, s .pre .loads .axial .high)) (s .pre .beam .depth .high)
+    product-le _ (s .args .beam .depth) (s .args .beam .flange)
+    (omega (arith, size, s .pre .loads .axial .high)) (s .pre .beam .depth .high)
 
 -- ---- the needs
 

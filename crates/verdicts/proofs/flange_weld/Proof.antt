@@ -1,4 +1,5 @@
 -- `flange_weld` meets its contract: by its full strength, or by what it carries. Assumes nothing.
+use Prim.Native.Nat.{_*_}
 use native.Mathlib.Omega.{arith}
 use borrow.Author.Tests.{le-leb, lt-leb}
 use Rattle.arithmetic.specs.Range.{_to_}
@@ -28,7 +29,9 @@ mul-if1-2 c = search needs
 
 returns : tie.Need-returns
 unfolding flangeWeldBy
-returns c = simp (le-leb _ _ (c .if1 .taken))
+returns c =
+    let f = c .before .before .before .args .face in
+    simp (le-leb (10 * f .beam .flange) (14 * f .welds .flange) (omega arith))
 
 flange-capacity-requires : tie.Need-flange-capacity-requires
 flange-capacity-requires c κs =

@@ -1,7 +1,6 @@
 -- `web_weld` meets its contract. Assumes nothing.
-use Rattle.arithmetic.specs.Range.{_to_}
-use Rattle.arithmetic.proofs.Bounds.{loosen}
-use Rattle.joint.specs.Ranges.{legs}
+use native.Mathlib.Omega.{arith}
+use Rattle.arithmetic.proofs.Bounds.{atMost}
 use Rattle.strength.proofs.Ranges.{weld-range}
 use Rattle.verdicts.specs.Welds.{webWeldPasses}
 use borrow.Author.Needs.{needs}
@@ -15,7 +14,7 @@ weld-capacity-requires : tie.Need-weld-capacity-requires
 weld-capacity-requires c κs =
     let p = c .before .pre in
     record {
-      leg-most = loosen (0 to legs .high) (p .0 .welds .web) tt;
+      leg-most = atMost (omega (arith, p .0 .welds .flange .high, p .0 .welds .web .high));
       length-most = p .0 .welds .web-length;
       strength = rw (p .1) (weld-range _ _);
     }

@@ -7,7 +7,8 @@ use Rattle.arithmetic.proofs.Checks.{holds, fails, none-left}
 use Rattle.strength.proofs.Ranges.{steel-in-range}
 use Rattle.compression.proofs.Ranges.{parts-in-range}
 use Rattle.governing.specs.Governing.{forceOf}
-use Rattle.governing.specs.Cap.{newtonsOf, overCompressed, capCase}
+use Rattle.governing.specs.Cap.{newtonsOf, overCompressed}
+use Rattle.governing.specs.Answers.{capCase}
 use Rattle.work.specs.OneFace.{governingOf, capOf}
 use Rattle.work.specs.Work.{refusals, refusedBy}
 use Rattle.work.proofs.Answers.{exceeded, within-cap}

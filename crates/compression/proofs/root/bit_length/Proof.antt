@@ -10,7 +10,7 @@ use Rattle.compression.proofs.root.bit_length.Statement.{statement}
 use Rattle.compression.proofs.root.bit_length.Tie as tie
 
 sub-result : tie.Need-sub-result
-sub-result c = leading-le 64 (c .args .x)
+sub-result c = omega (arith, leading-le 64 (c .args .x))
 
 cast-result : tie.Need-cast-result
 cast-result c = search needs
