@@ -77,7 +77,8 @@ by-number P low high passed failed ((number, test) ∷ checks) all none some =
     go test (by-number P low high passed failed checks (upper .1) none some)
     (some number (leb-true low number (both .0)) (leb-true number high (upper .0)))
   where
-    go : (t : Bool) → P (firstFailing passed failed checks) → P (failed number) → P (cond t (firstFailing passed failed checks) (failed number))
+    go : (t : Bool) → P (firstFailing passed failed checks) → P (failed number)
+        → P (cond t (firstFailing passed failed checks) (failed number))
     go true others here = others
     go false others here = here
 
@@ -197,7 +198,8 @@ module _ (result : FaceResult) (words : List ℕ) (eight : length (result .force
   unfolding figureWords
   bending-word =
       let place : 13 ≡ length (result .forces) + 5 = omega arith in
-      rw (append-assoc (result .forces) (figureWords result) rest, place) (getD-append-add (result .forces) (figureWords result ++ rest) 5 0)
+      rw (append-assoc (result .forces) (figureWords result) rest, place)
+      (getD-append-add (result .forces) (figureWords result ++ rest) 5 0)
 
 flag-back : (passes : Bool) → eqb (flag passes) 1 ≡ passes
 flag-back true = refl

@@ -48,7 +48,8 @@ pub extern "C" fn jinqewan_allocate(count: usize, limits: &[u64], forces: &mut [
 // Read: the joint goes to the first 37 places, and the place after it to `next`.
 #[no_mangle]
 pub extern "C" fn jinqewan_read(bytes: &[u8], fields: &mut [u32], next: &mut usize) -> u32
-    ensures { λ r. ⌜ answers r (record { words = now (fields .exit); next = now (next .exit) }) ≡ readingInto (now (bytes .entry)) (now (fields .entry)) (now (next .entry)) ⌝ }
+    ensures { λ r. ⌜ answers r (record { words = now (fields .exit); next = now (next .exit) })
+        ≡ readingInto (now (bytes .entry)) (now (fields .entry)) (now (next .entry)) ⌝ }
 {
     if fields.len() < JOINT_WORDS {
         return SHORT;
@@ -74,7 +75,8 @@ pub extern "C" fn jinqewan_rest(bytes: &[u8]) -> usize
 // Write: the file goes to the buffer's front and its length to `length`.
 #[no_mangle]
 pub extern "C" fn jinqewan_write(fields: &[u32], buffer: &mut [u8], length: &mut usize) -> u32
-    ensures { λ r. ⌜ answers r (record { bytes = now (buffer .exit); size = now (length .exit) }) ≡ writingInto (now (fields .entry)) (now (buffer .entry)) (now (length .entry)) ⌝ }
+    ensures { λ r. ⌜ answers r (record { bytes = now (buffer .exit); size = now (length .exit) })
+        ≡ writingInto (now (fields .entry)) (now (buffer .entry)) (now (length .entry)) ⌝ }
 {
     if fields.len() < JOINT_WORDS {
         return SHORT;
@@ -114,7 +116,8 @@ pub extern "C" fn jinqewan_work(fields: &[u32], result: &mut [u64]) -> u32
 // Sheet: the lines go to the output's front and their length to `length`.
 #[no_mangle]
 pub extern "C" fn jinqewan_sheet(input: &[u8], output: &mut [u8], length: &mut usize) -> u32
-    ensures { λ r. ⌜ answers r (record { bytes = now (output .exit); size = now (length .exit) }) ≡ sheetingInto (now (input .entry)) (now (output .entry)) (now (length .entry)) ⌝ }
+    ensures { λ r. ⌜ answers r (record { bytes = now (output .exit); size = now (length .exit) })
+        ≡ sheetingInto (now (input .entry)) (now (output .entry)) (now (length .entry)) ⌝ }
 {
     let printed = printer::sheet(input, output);
     match printed {

@@ -19,7 +19,8 @@ pub record DigitsHead (buffer₀ : List ℕ) (from n : ℕ) (buffer : List ℕ) 
   pub short : length (decimal left) ≤ length (decimal n)
   pub writes : sets buffer from (decimal left) ≡ sets buffer₀ from (decimal n)
 
-pub digits-none : (buffer : List ℕ) (from n count : ℕ) → n < 2 ^ 64 → count ≡ length (decimal n) → DigitsHead buffer from n buffer (from + count - 1) n
+pub digits-none : (buffer : List ℕ) (from n count : ℕ) → n < 2 ^ 64 → count ≡ length (decimal n)
+    → DigitsHead buffer from n buffer (from + count - 1) n
 digits-none buffer from n count small all =
     record { small = small; holds = refl; place = omega (arith, count-positive n small); short = omega arith; writes = refl }
 

@@ -75,8 +75,12 @@ count-four n small more =
 pub count-few : (n : ℕ) → n < 10000 → length (decimal n) ≡ 1 + boolByte (leb 10 n) + boolByte (leb 100 n) + boolByte (leb 1000 n)
 count-few n small =
     ⊎-elim (λ last. rw (lt-leb 10 n last, lt-leb 100 n (omega arith), lt-leb 1000 n (omega arith)) (count-last n last))
-    (λ more. rw (le-leb 10 n more) (⊎-elim (λ (h : n < 100). rw (lt-leb 100 n h, lt-leb 1000 n (omega arith)) (omega (arith, two more h)))
-    (λ h. rw (le-leb 100 n h) (⊎-elim (λ (g : n < 1000). rw (lt-leb 1000 n g) (omega (arith, three h g))) (λ (g : 1000 ≤ n). rw (le-leb 1000 n g) (omega (arith, four g))) (split n 1000)))
+    (λ more. rw (le-leb 10 n more)
+    (⊎-elim (λ (h : n < 100). rw (lt-leb 100 n h, lt-leb 1000 n (omega arith)) (omega (arith, two more h)))
+    (λ h. rw (le-leb 100 n h)
+    (⊎-elim (λ (g : n < 1000). rw (lt-leb 1000 n g) (omega (arith, three h g)))
+    (λ (g : 1000 ≤ n). rw (le-leb 1000 n g) (omega (arith, four g)))
+    (split n 1000)))
     (split n 100)))
     (split n 10)
   where
@@ -85,7 +89,12 @@ count-few n small =
 
     three : 100 ≤ n → n < 1000 → length (decimal n) ≡ 3
     three more few =
-        omega (arith, count-more n (omega arith) (omega arith), count-more (n / 10) (omega arith) (omega arith), count-last (n / 10 / 10) (omega arith))
+        omega (
+          arith,
+          count-more n (omega arith) (omega arith),
+          count-more (n / 10) (omega arith) (omega arith),
+          count-last (n / 10 / 10) (omega arith),
+        )
 
     four : 1000 ≤ n → length (decimal n) ≡ 4
     four more =

@@ -155,7 +155,8 @@ fn put_result(buffer: &mut [u8], from: usize, number: u64, rows: u32, result: Fa
 // Puts the joint's number, its row count and the forces of its rows.
 fn put_rows(buffer: &mut [u8], from: usize, number: u64, rows: u32, forces: [u64; 8]) -> usize
     requires { ⌜ from + length (decimal number ++ spaced (map decimal (rows ∷ rowForces rows forces))) ≤ length (now buffer) ⌝ }
-    ensures { λ r. ⌜ Put (now (buffer .entry)) from (decimal number ++ spaced (map decimal (rows ∷ rowForces rows forces))) (now (buffer .exit)) r ⌝ }
+    ensures { λ r. ⌜ Put (now (buffer .entry)) from (decimal number ++ spaced (map decimal (rows ∷ rowForces rows forces)))
+        (now (buffer .exit)) r ⌝ }
 {
     let row_count = [rows as u64];
     let count = shown(rows);

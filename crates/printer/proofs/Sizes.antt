@@ -75,7 +75,8 @@ lines-short (suc most) number (byte ∷ bytes) = go (lines-short most (number + 
   where
     go : ((left : List ℕ) → length (concatenated (linesWithin most (number + 1) left)) ≤ 283 * length (linesWithin most (number + 1) left))
         → (outcome : Parse Joint)
-        → length (concatenated (lineThen (linesWithin most (number + 1)) number outcome)) ≤ 283 * length (lineThen (linesWithin most (number + 1)) number outcome)
+        → length (concatenated (lineThen (linesWithin most (number + 1)) number outcome))
+        ≤ 283 * length (lineThen (linesWithin most (number + 1)) number outcome)
     go short (got joint left) =
         rw length-append (omega (arith, short left, outcome-short number (joint .face .rows) (worked joint)))
     go short (refused r) = rw length-append (omega (arith, refusal-short number (r ∷ []) (omega arith)))

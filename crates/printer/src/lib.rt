@@ -52,7 +52,8 @@ fn print_over_long(output: &mut [u8]) -> Printed
 
 fn print_joints(input: &[u8], output: &mut [u8]) -> Printed
     requires { ⌜ length (now input) ≤ 65536 ⌝ }
-    ensures { λ r. ⌜ printedMeaning r (now (output .exit)) ≡ printing (concatenated (linesOf 1 (now (input .entry)))) (now (output .entry)) ⌝ }
+    ensures { λ r. ⌜ printedMeaning r (now (output .exit))
+        ≡ printing (concatenated (linesOf 1 (now (input .entry)))) (now (output .entry)) ⌝ }
 {
     if has_room(input, output.len()) {
         let size = put_joints(input, output);

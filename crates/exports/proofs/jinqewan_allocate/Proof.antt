@@ -73,7 +73,8 @@ returns-3 c =
       taken _ 0 _ _ (le-leb 8 _ (long-enough call .if1 .left)) (sym (same-refusal call) ∙ none)
           (front put ∙ ap (λ (a : Allocation). atFront (a .forces) forces) (call .allocate .ensures .0)),
       λ zero. rw (front put)
-          (best-front _ (args .count) (call .allocate .result .forces) forces (put .put-eight-u64 .ensures .0) (call .allocate .ensures .1 none)),
+          (best-front _ (args .count) (call .allocate .result .forces) forces (put .put-eight-u64 .ensures .0)
+          (call .allocate .ensures .1 none)),
     )
 
 pub jinqewan-allocate-spec : {M : Type 1} → statement M

@@ -53,7 +53,8 @@ returns-3 c =
     let put = c .before .before in
     let call = was-read put .before .before in
     let words = now (begin call .args .fields) in
-    let placed : _≡_ {A = JointPlace} (record { words = put .put-joint .last .1 .0; next = call .read .result .next }) (jointPut (call .read .result) words) =
+    let placed : _≡_ {A = JointPlace} (record { words = put .put-joint .last .1 .0; next = call .read .result .next })
+    (jointPut (call .read .result) words) =
     λ i. record { words = put .put-joint .ensures i; next = call .read .result .next } in
     taken _ 0 _ _ (le-leb 37 _ (long-enough call .if1 .left)) (sym (same-refusal call) ∙ was-read put .if2 .left)
     (placed ∙ ap (λ (r : Reading). jointPut r words) (call .read .ensures))

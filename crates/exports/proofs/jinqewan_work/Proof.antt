@@ -1,5 +1,5 @@
--- `jinqewan_work` meets its contract: a slice is too short, `work` refuses, or the words of its result are the front of the other slice, and
--- demand 3 holds of them. Assumes nothing.
+-- `jinqewan_work` meets its contract: a slice is too short, `work` refuses, or the words of its result are the front of the other slice,
+-- and demand 3 holds of them. Assumes nothing.
 use Prim.Native.Nat.{ℕ, _≤_}
 use mathlib.Core.Path.{_≡_, sym, ap, _∙_}
 use mathlib.Core.Bool.{true, _&&_}
@@ -57,7 +57,8 @@ same-outcome c = c .work .ensures .0 ∙ ap worked (c .before .joint-of .ensures
 
 small : (c : tie.After-work) → Small (c .work .result .refusal)
 small c =
-    refusal-small (now (begin c .args .fields)) (words-enough (long-enough c) .if1 .left) (c .before .joint-of .ensures) (c .work .ensures .0)
+    refusal-small (now (begin c .args .fields)) (words-enough (long-enough c) .if1 .left) (c .before .joint-of .ensures)
+    (c .work .ensures .0)
 
 -- ---- the needs
 

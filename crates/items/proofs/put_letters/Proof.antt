@@ -33,8 +33,10 @@ next : (c : tie.After-shared-slice-known Inv-loop μ-loop)
     → (c .before .before .loop .at + 2 ≤ length (c .before .before .loop .buffer)) × (length (c .before .before .loop .buffer) < 2 ^ 64)
 next c =
     let head = c .before .before in
-    let start = head .before in
-    (omega (arith, items-room letter _ _ (c .before .loop-test .taken) (head .loop .inv) (start .pre)), omega (arith, put-length (head .loop .inv), start .good .0 .0))
+    let start = head .before in (
+      omega (arith, items-room letter _ _ (c .before .loop-test .taken) (head .loop .inv) (start .pre)),
+      omega (arith, put-length (head .loop .inv), start .good .0 .0),
+    )
 
 add-buffer : tie.Need-add-buffer Inv-loop μ-loop
 add-buffer c = omega (arith, next c)

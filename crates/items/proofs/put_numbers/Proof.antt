@@ -19,19 +19,28 @@ Inv-loop buffer₀ from numbers at₀ i₀ buffer at i = Put buffer₀ from (ite
 abbrev μ-loop : tie.MeasureT-loop
 μ-loop buffer₀ from numbers at₀ i₀ buffer at i = length numbers - i
 
+abbrev start : tie.At-loop Inv-loop μ-loop → tie.Start Inv-loop μ-loop
+start c = c .before .before .before
+
 loop-holds : tie.Need-loop-holds Inv-loop μ-loop
 unfolding spaced
 loop-holds c = put-none _ _
 
 slice-write-buffer : tie.Need-slice-write-buffer Inv-loop μ-loop
 slice-write-buffer c =
-    let start = c .before .before .before .before in
-    omega (arith, items-room decimal _ _ (c .loop-test .taken) (c .before .loop .inv) (start .pre))
+    let head = c .before in
+    omega (arith, items-room decimal _ _ (c .loop-test .taken) (head .loop .inv) (start head .pre))
 
 add-put-number : tie.Need-add-put-number Inv-loop μ-loop
 add-put-number c =
-    let start = c .before .before .before .before .before in
-    omega (arith, items-room decimal _ _ (c .before .loop-test .taken) (c .before .before .loop .inv) (start .pre), put-length (c .before .before .loop .inv), start .good)
+    let turn = c .before in
+    let head = turn .before in
+    omega (
+      arith,
+      items-room decimal _ _ (turn .loop-test .taken) (head .loop .inv) (start head .pre),
+      put-length (head .loop .inv),
+      start head .good,
+    )
 
 mul-put-number : tie.Need-mul-put-number Inv-loop μ-loop
 mul-put-number c = search needs
@@ -41,8 +50,9 @@ shared-slice-read-put-number c = search needs
 
 put-number-requires : tie.Need-put-number-requires Inv-loop μ-loop
 put-number-requires c κs =
-    let head = c .before .before .before in
-    simp length-set (omega (arith, items-room decimal _ _ (c .before .before .loop-test .taken) (head .loop .inv) (head .before .before .before .pre)))
+    let turn = c .before .before in
+    let head = turn .before in
+    simp length-set (omega (arith, items-room decimal _ _ (turn .loop-test .taken) (head .loop .inv) (start head .pre)))
 
 add-i : tie.Need-add-i Inv-loop μ-loop
 add-i c = omega arith
@@ -52,14 +62,17 @@ loop-less c = omega arith
 
 loop-again : tie.Need-loop-again Inv-loop μ-loop
 loop-again c =
-    let test = c .before .before .before .before .before in
-    items-more decimal _ _ (test .loop-test .taken) (test .before .loop .inv) (c .before .before .put-number .ensures)
+    let put = c .before .before in
+    let turn = put .before .before .before in
+    items-more decimal _ _ (turn .loop-test .taken) (turn .before .loop .inv) (put .put-number .ensures)
 
 same-length : tie.Need-same-length Inv-loop μ-loop
 same-length c = put-length (c .before .loop .inv)
 
 returns : tie.Need-returns Inv-loop μ-loop
-returns c = rw (← items-all decimal (now (c .before .before .before .before .args .numbers)) _ (c .loop-test .left)) (c .before .loop .inv)
+returns c =
+    let head = c .before in
+    rw (← items-all decimal (now (start head .args .numbers)) _ (c .loop-test .left)) (head .loop .inv)
 
 pub put-numbers-spec : {M : Type 1} → statement M
 put-numbers-spec =

@@ -14,6 +14,9 @@ Inv-loop buffer₀ from n next at₀ left₀ buffer at left = DigitsHead buffer�
 abbrev μ-loop : tie.MeasureT-loop
 μ-loop buffer₀ from n next at₀ left₀ buffer at left = left
 
+abbrev start : tie.At-loop Inv-loop μ-loop → tie.Start Inv-loop μ-loop
+start c = c .before .before .before
+
 digit-count-requires : tie.Need-digit-count-requires Inv-loop μ-loop
 digit-count-requires c κs = search needs
 
@@ -33,7 +36,7 @@ cast-buffer : tie.Need-cast-buffer Inv-loop μ-loop
 cast-buffer c = omega arith
 
 slice-write-buffer : tie.Need-slice-write-buffer Inv-loop μ-loop
-slice-write-buffer c = digits-room (c .before .loop .inv) (c .before .before .before .before .pre)
+slice-write-buffer c = digits-room (c .before .loop .inv) (start (c .before) .pre)
 
 sub-at-2 : tie.Need-sub-at-2 Inv-loop μ-loop
 sub-at-2 c = digits-back (c .before .loop .inv) (c .loop-test .taken)
@@ -51,7 +54,7 @@ cast-buffer-2 : tie.Need-cast-buffer-2 Inv-loop μ-loop
 cast-buffer-2 c = omega arith
 
 slice-write-buffer-2 : tie.Need-slice-write-buffer-2 Inv-loop μ-loop
-slice-write-buffer-2 c = digits-room (c .before .loop .inv) (c .before .before .before .before .pre)
+slice-write-buffer-2 c = digits-room (c .before .loop .inv) (start (c .before) .pre)
 
 same-length : tie.Need-same-length Inv-loop μ-loop
 same-length c = simp length-set (c .before .loop .inv .holds)

@@ -8,6 +8,9 @@ use borrow.Author.Needs.{needs}
 use Rattle.words.proofs.joints.head_of.Statement.{statement}
 use Rattle.words.proofs.joints.head_of.Tie as tie
 
+abbrev start : tie.After-struct-told → tie.Start
+start c = c .before .before .before
+
 fields-of-requires : tie.Need-fields-of-requires
 fields-of-requires c κs = search needs
 
@@ -20,7 +23,7 @@ array-write-head c = search needs
 returns : tie.Need-returns
 unfolding headOf
 returns c =
-    let axial = c .before .before .before .before .args .joint .face .loads .axial in
+    let axial = start (c .before) .args .joint .face .loads .axial in
     let back : toZ w32 (ofZ w32 axial) ≡ axial = search needs in
     rw (c .before .before .fields-of .ensures, c .word-of .ensures, back)
 
