@@ -55,7 +55,8 @@ module _ (n : ℕ) (limits : List ℕ) (s : Shareable n limits) where
   unfolding sumDownTo forcesDownTo
   sum-le-most zero h = omega arith
   sum-le-most (suc k) h =
-      omega (arith, sum-le (listed n limits) n k 0 h (omega arith), lowered-le (listed n limits) n 0 k, limit-le n limits s 0 k (omega arith) h)
+      let limit = listed n limits in
+      omega (arith, sum-le limit n k 0 h (omega arith), lowered-le limit n 0 k, limit-le n limits s 0 k (omega arith) h)
 
   -- the groups down to row r allow the shared sum
   sum-le-allowed : (k r : ℕ) → r ≤ suc k → k < n → sumDownTo (listed n limits) n (suc k) ≤ allowed (listed n limits) n r k
@@ -113,7 +114,8 @@ module _ (n : ℕ) (limits : List ℕ) (s : Shareable n limits) where
     stored =
         let places : 8 - row ≡ suc (8 - suc row) = omega (arith, s .rows) in
         ap₂ (λ xs x. set xs row x) (d .got ∙ ap (λ m. forcesDownTo (listed n limits) n row ++ replicate m 0) places) force
-        ∙ fill (forcesDownTo (listed n limits) n row) row (8 - suc row) (nextForce (listed n limits) n (forcesDownTo (listed n limits) n row))
+        ∙ fill (forcesDownTo (listed n limits) n row) row (8 - suc row)
+        (nextForce (listed n limits) n (forcesDownTo (listed n limits) n row))
         (length-forces (listed n limits) n row)
 
     pub turn : SharedDownTo n limits (set forces row (getD sums' row 0 - above)) sums' (getD sums' row 0) (first + (n - row)) (row + 1)
@@ -144,4 +146,5 @@ module _ (n : ℕ) (limits : List ℕ) (s : Shareable n limits) where
   force-le-most k =
       let forces = forcesDownTo (listed n limits) n n in
       let empty : List ℕ = replicate (8 - length forces) 0 in
-      omega (arith, at-most-total (forces ++ empty) k, total-append forces empty, total-zeros (8 - length forces), sum-le-most n (le-refl n))
+      let sum = sum-le-most n (le-refl n) in
+      omega (arith, at-most-total (forces ++ empty) k, total-append forces empty, total-zeros (8 - length forces))

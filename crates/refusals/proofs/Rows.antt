@@ -15,7 +15,8 @@ use Rattle.arithmetic.proofs.Table.{at}
 use Rattle.refusals.specs.Refusals.{belowAbove}
 
 module _ (test : ℕ → ℕ → Bool) (n : ℕ) (levers : List ℕ) (few : n ≤ length levers) where
-  next : (row : ℕ) → row < n → every test row (drop row (take n levers)) ≡ (test row (getD levers row 0) && every test (row + 1) (drop (row + 1) (take n levers)))
+  next : (row : ℕ) → row < n
+      → every test row (drop row (take n levers)) ≡ (test row (getD levers row 0) && every test (row + 1) (drop (row + 1) (take n levers)))
   next row h =
       let inside : row < length (take n levers) = rw (length-take-le n levers few) h in
       let cut = drop-cons (take n levers) row 0 inside in
@@ -33,10 +34,12 @@ module _ (test : ℕ → ℕ → Bool) (n : ℕ) (levers : List ℕ) (few : n �
   rows-end row h = ap (every test row) (drop-of-length-le (take n levers) {i = row} (omega (arith, length-take-le n levers few)))
 
 -- the test of falling levers, past the first row
-pub below : (levers : List ℕ) (row : ℕ) → 0 < row → getD levers row 0 < getD levers (row - 1) 0 → belowAbove levers row (getD levers row 0) ≡ true
+pub below : (levers : List ℕ) (row : ℕ) → 0 < row → getD levers row 0 < getD levers (row - 1) 0
+    → belowAbove levers row (getD levers row 0) ≡ true
 below levers row h lt = rw (ne-eqb row 0 (omega arith), lt-ltb _ _ lt)
 
-pub not-below : (levers : List ℕ) (row : ℕ) → 0 < row → getD levers (row - 1) 0 ≤ getD levers row 0 → belowAbove levers row (getD levers row 0) ≡ false
+pub not-below : (levers : List ℕ) (row : ℕ) → 0 < row → getD levers (row - 1) 0 ≤ getD levers row 0
+    → belowAbove levers row (getD levers row 0) ≡ false
 not-below levers row h le = rw (ne-eqb row 0 (omega arith), le-ltb _ _ le)
 
 -- the first row has none above it

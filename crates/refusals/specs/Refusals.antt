@@ -24,7 +24,8 @@ inPlace first over under row lever = cond (ltb row first) (ltb over (2 * lever))
 unfoldable pub rowsInPlace : Face → Bool
 rowsInPlace face =
     let beam = face .beam in
-    every (inPlace (face .extended) (2 * beam .depth - beam .flange) (2 * beam .depth - 3 * beam .flange)) 0 (take (face .rows) (face .levers))
+    every (inPlace (face .extended) (2 * beam .depth - beam .flange) (2 * beam .depth - 3 * beam .flange)) 0
+    (take (face .rows) (face .levers))
 
 -- 13 'column m, plate m or (if extended) mx under 500, or either e under 1000'
 unfoldable pub tooTight : (extended : ℕ) → Spacing → Bool

@@ -37,4 +37,5 @@ module _ (limit : Table) (n : ℕ) where
       each zero hd = le-trans (min-le-left _ _) (le-of-eq (ap (limit i) (sym (add-zero j))))
       each (suc d) hd =
           le-trans (min-le-right _ _)
-          (le-trans (least-le (λ e. limit i (suc j + e)) (n - suc (suc j)) d (omega arith)) (le-of-eq (ap (limit i) (suc-add j d ∙ sym (add-suc j d)))))
+          (le-trans (least-le (λ e. limit i (suc j + e)) (n - suc (suc j)) d (omega arith))
+          (le-of-eq (ap (limit i) (suc-add j d ∙ sym (add-suc j d)))))

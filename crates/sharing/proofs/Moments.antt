@@ -56,7 +56,8 @@ moment-le (lever ∷ levers) [] ys hand top f ex ey d = absurd (omega arith)
 moment-le (lever ∷ levers) (x ∷ xs) [] hand top f ex ey d = absurd (omega arith)
 moment-le (lever ∷ levers) (x ∷ xs) (y ∷ ys) hand top f ex ey d =
     let one = d 1 in
-    let below = moment-le levers xs ys (hand + x - y) lever (falls-tail top lever levers f) (omega arith) (omega arith) (ahead-tail hand x y xs ys d) in
+    let below = moment-le levers xs ys (hand + x - y) lever (falls-tail top lever levers f) (omega arith) (omega arith)
+    (ahead-tail hand x y xs ys d) in
     let fall = f .first (omega arith) in
     omega (arith, hand-down hand x y lever top (omega arith) (omega arith))
 

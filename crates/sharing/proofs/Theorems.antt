@@ -1,4 +1,5 @@
--- The theorems of demand 3 for any count of rows and any table of limits: the shared forces compete, they are the best, and no other list is.
+-- The theorems of demand 3 for any count of rows and any table of limits: the shared forces compete, they are the best, and no other
+-- list is.
 -- A list that competes keeps the lowered limits too, since no force is below zero; so each of its sums from the top is one
 -- that no group forbids, and the shared sums are the greatest of those. Assumes nothing.
 use mathlib.Core.Path.{_≡_, refl, sym, ap, _∙_}
@@ -93,7 +94,8 @@ module _ (limit : Table) (n : ℕ) where
 
       pub moment-le-shared : moment levers other ≤ moment levers (shared limit n)
       moment-le-shared =
-          let m = moment-le levers (shared limit n) other 0 _ from-above (shared-competes .rows ∙ sym (f .rows)) (c .rows ∙ sym (f .rows)) ahead in
+          let m = moment-le levers (shared limit n) other 0 _ from-above (shared-competes .rows ∙ sym (f .rows))
+          (c .rows ∙ sym (f .rows)) ahead in
           omega (arith, zero-mul (suc (getD levers 0 0)))
 
       pub same-exactly : (other ≡ shared limit n) ↔ (moment levers other ≡ moment levers (shared limit n))

@@ -24,7 +24,7 @@ use Rattle.governing.specs.Cap.{tensionCap, overCompressed, newtonsOf}
 use Rattle.governing.specs.Answers.{capCase}
 use Rattle.governing.specs.declared.Cap.the-variants.{Newtons, Exceeded}
 use Rattle.outcome.specs.declared.Outcome.{Outcome}
-use Rattle.work.specs.Work.{refusedBy, refusals, completed, resultOf, workedFace}
+use Rattle.work.specs.Work.{refusedBy, refusals, completed, resultOf, workedFace, refusedFace}
 use Rattle.work.specs.declared.Admission.the-variants.{Admitted, Refused}
 
 neither : (a b : Bool) → (a || b) ≡ false → (a ≡ false) × (b ≡ false)
@@ -103,6 +103,6 @@ pub not-refused : (column : Column) (bolt : BoltStrengths) (face : Face) (answer
     → ((number : ℕ) → numbered number (refusals column bolt face) ≡ true) × (completed (resultOf column bolt face) ≡ answer)
 unfolding workedFace refusals positive
 not-refused column bolt face answer e none =
-    numbered-holds (completed (resultOf column bolt face)) (λ number. refusedBy number 0) answer
+    numbered-holds (completed (resultOf column bolt face)) refusedFace answer
     (λ number refused. let never = refusal-is (suc number) 0 answer refused none in absurd (omega arith))
     (refusals column bolt face) tt e

@@ -43,7 +43,8 @@ module _ (column : Column) (bolt : BoltStrengths) (face : Face) where
   pub pulling-le : pullingRows (forcesOf column bolt face) ≤ rowsOf face
   pulling-le = omega (arith, pulling-le-length (forcesOf column bolt face), row-count)
 
-  pub bolts-judged : (pulling idle : ℕ) → pulling ≡ pullingRows (forcesOf column bolt face) → idle ≡ rowsOf face + face .«shear_rows» - pulling
+  pub bolts-judged : (pulling idle : ℕ) → pulling ≡ pullingRows (forcesOf column bolt face)
+      → idle ≡ rowsOf face + face .«shear_rows» - pulling
       → leb (face .loads .shear) (pulling * pullingPair bolt column (face .plate) + idle * idlePair bolt column (face .plate))
       ≡ boltsPass bolt column (face .plate) (face .«shear_rows») (face .loads .shear) (forcesOf column bolt face)
   unfolding boltsPass

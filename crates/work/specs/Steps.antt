@@ -19,7 +19,7 @@ use Rattle.verdicts.specs.Tally.{tallyOf}
 use Rattle.verdicts.specs.declared.Tally.{Tally}
 use Rattle.outcome.specs.declared.Outcome.{Outcome}
 use Rattle.work.specs.OneFace.{steelOf, governingOf, capOf, forcesOf, leversOf}
-use Rattle.work.specs.Work.{refusedBy}
+use Rattle.work.specs.Work.{refusedFace}
 use Rattle.work.specs.declared.Measures.{Measures}
 use Rattle.work.specs.declared.Admission.{Admission}
 use Rattle.work.specs.declared.Admission.the-variants.{Admitted, Refused}
@@ -30,7 +30,7 @@ measuresOf column face = record { spacing = spacingOf column face; steel = steel
 -- What an admission comes to, where `outcome` is what a face that is admitted comes to.
 abbrev pub admittedTo : Outcome → Admission → Outcome
 admittedTo outcome Admitted = outcome
-admittedTo outcome (Refused number) = refusedBy number 0
+admittedTo outcome (Refused number) = refusedFace number
 
 -- What refusal 10 leaves: fields in range, and so the bolts' figures.
 pub record FaceAsked (c : Column) (b : BoltStrengths) (f : Face) : Type 0 where

@@ -40,6 +40,10 @@ refusedBy number field = record {
   };
 }
 
+-- a refusal after 10
+abbrev pub refusedFace : (number : ℕ) → Outcome
+refusedFace number = refusedBy number 0
+
 -- 'Tried in this order', after 10: each number with the test that lets a face pass.
 unfoldable pub refusals : Column → BoltStrengths → Face → List Check
 refusals column bolt face =
@@ -70,7 +74,7 @@ completed result = record { refusal = record { number = 0; field = 0 }; result =
 unfoldable pub workedFace : Column → BoltStrengths → Face → Outcome
 unfolding refusals resultOf
 workedFace column bolt face =
-    firstFailing (completed (resultOf column bolt face)) (λ number. refusedBy number 0) (refusals column bolt face)
+    firstFailing (completed (resultOf column bolt face)) refusedFace (refusals column bolt face)
 
 -- '10 a field out of range, with the first such field's number'; then the face.
 abbrev pub workedBy : FieldCheck → Outcome → Outcome

@@ -10,7 +10,7 @@ ghost use Rattle.governing.specs.Governing.{forceOf};
 ghost use Rattle.sharing.specs.Groups.{withCap, mostLimit};
 ghost use Rattle.sharing.specs.Sharing.{shared};
 ghost use Rattle.work.specs.OneFace.{rowsOf, limitOf, steelOf, governingOf, forcesOf, verdictsOf};
-ghost use Rattle.work.specs.Work.{refusedBy, refusals, resultOf, completed, workedFace, worked};
+ghost use Rattle.work.specs.Work.{refusedBy, refusals, resultOf, completed, workedFace, worked, refusedFace};
 ghost use Rattle.work.specs.Demand.{Demand3Of};
 ghost use Rattle.work.specs.Steps.{measuresOf, FaceAsked, AdmitAsked, Measured, Capped, Tallied};
 ghost use Rattle.work.specs.declared.Admission.the-variants.{Admitted, Refused};
@@ -126,7 +126,7 @@ fn admit(column: Column, bolt: BoltStrengths, face: Face, measures: Measures) ->
 // A face that the first four let pass: the last is 15, where N leaves no cap.
 fn work_admitted(column: Column, bolt: BoltStrengths, face: Face, measures: Measures) -> Outcome
     requires { ⌜ Measured column bolt face measures ⌝ }
-    ensures { λ r. ⌜ r ≡ firstFailing (completed (resultOf column bolt face)) (λ number. refusedBy number 0) (drop 4 (refusals column bolt face)) ⌝ }
+    ensures { λ r. ⌜ r ≡ firstFailing (completed (resultOf column bolt face)) refusedFace (drop 4 (refusals column bolt face)) ⌝ }
 {
     let check = governing_of(column, face, measures.steel);
     let capped = governing::tension_cap(governing::force_of(check), face.loads);

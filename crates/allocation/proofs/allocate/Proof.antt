@@ -43,7 +43,8 @@ none-too-large : (c : tie.After-none-above)
 unfolding groupCount
 none-too-large c = c .none-above .ensures
 
-small : (c : tie.Else3) → noneAbove mostLimit (take (groupCount (start (c .before) .args .count)) (start (c .before) .args .limits .now)) ≡ true
+small : (c : tie.Else3)
+    → noneAbove mostLimit (take (groupCount (start (c .before) .args .count)) (start (c .before) .args .limits .now)) ≡ true
 small c = sym (none-too-large (c .before)) ∙ not-false _ (c .if3 .left)
 
 -- ---- the needs

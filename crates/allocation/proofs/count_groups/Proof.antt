@@ -19,6 +19,16 @@ Inv-loop sums₀ limits first row count above last₀ lowered₀ sums last lower
 abbrev μ-loop : tie.MeasureT-loop
 μ-loop sums₀ limits first row count above last₀ lowered₀ sums last lowered = last
 
+-- ---- the places: a turn's start, and the turn after its test
+
+abbrev start : tie.At-loop Inv-loop μ-loop → tie.Start Inv-loop μ-loop
+start c = c .before .before .before
+
+abbrev turn : tie.Else1 Inv-loop μ-loop → tie.At-loop Inv-loop μ-loop
+turn c = c .before .before .before
+
+-- ---- the needs
+
 sub-last : tie.Need-sub-last Inv-loop μ-loop
 sub-last c = search needs
 
@@ -58,7 +68,7 @@ element-copy-out-least c = omega arith
 
 add-least : tie.Need-add-least Inv-loop μ-loop
 add-least c =
-    let s = c .before .before .before .before in
+    let s = start (c .before) in
     let l = c .before .loop in
     omega (arith, lowered-le-most _ _ (s .pre .limits-shareable) _ _ (l .inv .0) (l .inv .1))
 
@@ -84,20 +94,20 @@ sub-least c = omega arith
 
 add-least-2 : tie.Need-add-least-2 Inv-loop μ-loop
 add-least-2 c =
-    let s = c .before .before .before .before .before .before in
-    let l = c .before .before .before .loop in
+    let s = start (turn c) in
+    let l = turn c .loop in
     omega (arith, place-inside _ _ (s .pre .limits-shareable) _ (l .last - 1) _ (s .pre .place) (omega arith) (omega arith))
 
 mul-least-2 : tie.Need-mul-least-2 Inv-loop μ-loop
 mul-least-2 c =
-    let s = c .before .before .before .before .before .before in
-    let l = c .before .before .before .loop in
+    let s = start (turn c) in
+    let l = turn c .loop in
     omega (arith, place-inside _ _ (s .pre .limits-shareable) _ (l .last - 1) _ (s .pre .place) (omega arith) (omega arith))
 
 shared-slice-read-least : tie.Need-shared-slice-read-least Inv-loop μ-loop
 shared-slice-read-least c =
-    let s = c .before .before .before .before .before .before .before in
-    let l = c .before .before .before .before .loop in
+    let s = start (turn (c .before)) in
+    let l = turn (c .before) .loop in
     omega (arith, place-inside _ _ (s .pre .limits-shareable) _ (l .last - 1) _ (s .pre .place) (omega arith) (omega arith))
 
 least-requires-2 : tie.Need-least-requires-2 Inv-loop μ-loop
@@ -108,15 +118,17 @@ loop-less c = omega arith
 
 loop-again : tie.Need-loop-again Inv-loop μ-loop
 loop-again c =
-    let s = c .before .before .before .before .before .before .before .before in
-    let l = c .before .before .before .before .before .loop in
-    let next : suc (l .last - 1) ≡ l .last = omega arith in (
+    let left = c .before .before in
+    let s = start (turn left) in
+    let l = turn left .loop in
+    let next : suc (l .last - 1) ≡ l .last = omega arith in
+    let limit = listed (s .args .count) (s .args .limits .now) in (
       omega arith,
       omega arith,
       c .least2 .ensures
           ∙ lower _ _ _ _ _ _ (s .pre .place) (omega arith)
-          (l .inv .2 ∙ ap (loweredLimit (listed (s .args .count) (s .args .limits .now)) (s .args .count) (s .args .row)) (sym next)),
-      one-more _ _ _ _ _ _ _ _ _ _ (omega (arith, l .inv .3 .size)) (sym next) (l .inv .2) (c .before .before .before .least .ensures) (l .inv .3),
+          (l .inv .2 ∙ ap (loweredLimit limit (s .args .count) (s .args .row)) (sym next)),
+      one-more _ _ _ _ _ _ _ _ _ _ (omega (arith, l .inv .3 .size)) (sym next) (l .inv .2) (left .before .least .ensures) (l .inv .3),
     )
 
 pub count-groups-spec : {M : Type 1} → statement M

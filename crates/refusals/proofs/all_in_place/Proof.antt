@@ -12,7 +12,8 @@ use Rattle.refusals.proofs.all_in_place.Tie as tie
 
 abbrev Inv-loop : tie.InvT-loop
 Inv-loop rows first over under levers row₀ row =
-    (row ≤ rows) × (every (inPlace first over under) 0 (take rows levers) ≡ every (inPlace first over under) row (drop row (take rows levers)))
+    (row ≤ rows)
+    × (every (inPlace first over under) 0 (take rows levers) ≡ every (inPlace first over under) row (drop row (take rows levers)))
 
 abbrev μ-loop : tie.MeasureT-loop
 μ-loop rows first over under levers row₀ row = rows - row
@@ -29,10 +30,19 @@ array-read-is-in-place c = omega arith
 is-in-place-requires : tie.Need-is-in-place-requires Inv-loop μ-loop
 is-in-place-requires c κs = c .before .before .pre .1 (c .before .loop .row)
 
+-- ---- the place of a turn, and its test
+
+abbrev turn : tie.After-is-in-place Inv-loop μ-loop → tie.At-loop Inv-loop μ-loop
+turn c = c .before .before
+
+abbrev inside : tie.After-is-in-place Inv-loop μ-loop → tie.In-loop Inv-loop μ-loop
+inside c = c .before
+
 returns : tie.Need-returns Inv-loop μ-loop
 returns c =
-    let l = c .before .before .before .loop in
-    sym (l .inv .1 ∙ row-fails _ _ _ (omega arith) _ (c .before .before .loop-test .taken) (sym (c .before .is-in-place .ensures) ∙ not-true _ (c .if1 .taken)))
+    let tested = c .before in
+    let fails = sym (tested .is-in-place .ensures) ∙ not-true _ (c .if1 .taken) in
+    sym (turn tested .loop .inv .1 ∙ row-fails _ _ _ (omega arith) _ (inside tested .loop-test .taken) fails)
 
 add-row : tie.Need-add-row Inv-loop μ-loop
 add-row c = omega arith
@@ -42,8 +52,9 @@ loop-less c = omega arith
 
 loop-again : tie.Need-loop-again Inv-loop μ-loop
 loop-again c =
-    let l = c .before .before .before .loop in
-    (omega arith, l .inv .1 ∙ row-passes _ _ _ (omega arith) _ (c .before .before .loop-test .taken) (sym (c .before .is-in-place .ensures) ∙ not-false _ (c .if1 .left)))
+    let tested = c .before in
+    let passes = sym (tested .is-in-place .ensures) ∙ not-false _ (c .if1 .left) in
+    (omega arith, turn tested .loop .inv .1 ∙ row-passes _ _ _ (omega arith) _ (inside tested .loop-test .taken) passes)
 
 returns-2 : tie.Need-returns-2 Inv-loop μ-loop
 returns-2 c =

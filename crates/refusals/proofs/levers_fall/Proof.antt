@@ -11,7 +11,9 @@ use Rattle.refusals.proofs.levers_fall.Tie as tie
 
 abbrev Inv-loop : tie.InvT-loop
 Inv-loop rows levers row₀ row =
-    (0 < row) × (every (belowAbove levers) 0 (take rows levers) ≡ every (belowAbove levers) row (drop row (take rows levers))) × (length levers ≡ 8)
+    (0 < row)
+    × (every (belowAbove levers) 0 (take rows levers) ≡ every (belowAbove levers) row (drop row (take rows levers)))
+    × (length levers ≡ 8)
 
 abbrev μ-loop : tie.MeasureT-loop
 μ-loop rows levers row₀ row = rows - row
@@ -37,10 +39,9 @@ array-read-if1-2 c = omega arith
 returns : tie.Need-returns Inv-loop μ-loop
 returns c =
     let s = c .before .before .before in
-    let l = c .before .before .loop in (
-      sym (l .inv .1 ∙ row-fails _ _ _ (omega arith) _ (c .before .loop-test .taken) (not-below (s .args .t2) (l .row) (l .inv .0) (c .if1 .taken))),
-      l .inv .2,
-    )
+    let l = c .before .before .loop in
+    let fails = not-below (s .args .t2) (l .row) (l .inv .0) (c .if1 .taken) in
+    (sym (l .inv .1 ∙ row-fails _ _ _ (omega arith) _ (c .before .loop-test .taken) fails), l .inv .2)
 
 add-row : tie.Need-add-row Inv-loop μ-loop
 add-row c = omega arith

@@ -48,7 +48,8 @@ tight c = c .too-tight .ensures ∙ ap (λ m. tooTight (from-13 c .args .face .e
 
 thick : (c : tie.After-both-too-thick)
     → c .both-too-thick .result
-    ≡ bothTooThick (from-14 c .args .column) (from-14 c .args .face .plate) (steelOf (from-14 c .args .column) (from-14 c .args .face)) (from-14 c .args .bolt)
+    ≡ bothTooThick (from-14 c .args .column) (from-14 c .args .face .plate)
+    (steelOf (from-14 c .args .column) (from-14 c .args .face)) (from-14 c .args .bolt)
 thick c =
     let a = from-14 c .args in
     c .both-too-thick .ensures ∙ ap (λ m. bothTooThick (a .column) (a .face .plate) (m .steel) (a .bolt)) (from-14 c .pre .measured)
@@ -62,7 +63,8 @@ past-12 : (c : tie.Else2) → rowsInPlace (from-12 (c .before) .args .face) ≡ 
 past-12 c = sym (placed (c .before)) ∙ not-false _ (c .if2 .left)
 
 past-13 : (c : tie.Else3)
-    → not (tooTight (from-13 (c .before) .args .face .extended) (spacingOf (from-13 (c .before) .args .column) (from-13 (c .before) .args .face))) ≡ true
+    → not (tooTight (from-13 (c .before) .args .face .extended)
+    (spacingOf (from-13 (c .before) .args .column) (from-13 (c .before) .args .face))) ≡ true
 past-13 c = ap not (sym (tight (c .before)) ∙ c .if3 .left)
 
 -- ---- the needs
@@ -88,7 +90,9 @@ returns-2 : tie.Need-returns-2
 unfolding refusals
 returns-2 c =
     let passed = c .before .before in (
-      sym (holds Admitted Refused 11 _ _ (past-11 passed) ∙ fails Admitted Refused 12 _ _ (sym (placed (c .before)) ∙ not-true _ (c .if2 .taken))),
+      sym
+          (holds Admitted Refused 11 _ _ (past-11 passed)
+          ∙ fails Admitted Refused 12 _ _ (sym (placed (c .before)) ∙ not-true _ (c .if2 .taken))),
       eight (passed .before),
     )
 
@@ -112,7 +116,12 @@ both-too-thick-requires c κs =
     let a = start .args in
     let asked = start .pre .asked in
     let steel = steel-in-range (a .column) (a .face .beam) (a .face .plate) (asked .column) (asked .face .beam) (asked .face .plate) in
-    record { column = asked .column; plate = asked .face .plate; steel = rw (ap (λ m. m .steel) (start .pre .measured)) steel; bolt = asked .bolt }
+    record {
+      column = asked .column;
+      plate = asked .face .plate;
+      steel = rw (ap (λ m. m .steel) (start .pre .measured)) steel;
+      bolt = asked .bolt;
+    }
 
 returns-4 : tie.Need-returns-4
 unfolding refusals
@@ -122,7 +131,8 @@ returns-4 c =
     let falling = in-place .before .before in (
       sym
           (holds Admitted Refused 11 _ _ (past-11 falling) ∙ holds Admitted Refused 12 _ _ (past-12 in-place)
-          ∙ holds Admitted Refused 13 _ _ (past-13 passed) ∙ fails Admitted Refused 14 _ _ (ap not (sym (thick (c .before)) ∙ c .if4 .taken))),
+          ∙ holds Admitted Refused 13 _ _ (past-13 passed)
+          ∙ fails Admitted Refused 14 _ _ (ap not (sym (thick (c .before)) ∙ c .if4 .taken))),
       eight (falling .before),
     )
 

@@ -10,7 +10,7 @@ use Rattle.governing.specs.Governing.{forceOf}
 use Rattle.governing.specs.Cap.{newtonsOf, overCompressed}
 use Rattle.governing.specs.Answers.{capCase}
 use Rattle.work.specs.OneFace.{governingOf, capOf}
-use Rattle.work.specs.Work.{refusals, refusedBy}
+use Rattle.work.specs.Work.{refusals, refusedBy, refusedFace}
 use Rattle.work.proofs.Answers.{exceeded, within-cap}
 use Rattle.work.proofs.work_admitted.Statement.{statement}
 use Rattle.work.proofs.work_admitted.Tie as tie
@@ -28,7 +28,8 @@ under c = c .before .before .before
 
 -- ---- the force is that of the check that governs the face, and the cap's case is its own
 
-force : (c : tie.After-force-of) → c .force-of .result ≡ forceOf (governingOf (c .before .before .args .column) (c .before .before .args .face))
+force : (c : tie.After-force-of)
+    → c .force-of .result ≡ forceOf (governingOf (c .before .before .args .column) (c .before .before .args .face))
 force c = c .force-of .ensures ∙ ap forceOf (c .before .governing-of .ensures .0)
 
 capped : (c : tie.After-tension-cap)
@@ -36,7 +37,8 @@ capped : (c : tie.After-tension-cap)
 capped c = c .tension-cap .ensures ∙ ap (capCase (start c .args .face .loads)) (force (c .before))
 
 newtons : (c : tie.After-known-told)
-    → (overCompressed (start (under c) .args .face .loads) (forceOf (governingOf (start (under c) .args .column) (start (under c) .args .face))) ≡ false)
+    → (overCompressed (start (under c) .args .face .loads)
+    (forceOf (governingOf (start (under c) .args .column) (start (under c) .args .face))) ≡ false)
     × (c .before .capped .given .0 .0 ≡ newtonsOf (capOf (start (under c) .args .column) (start (under c) .args .face)))
 unfolding capOf
 newtons c = within-cap _ _ _ (sym (c .before .capped .given .1) ∙ capped (under c))
@@ -70,7 +72,7 @@ unfolding refusals
 returns c =
     let told = c .before in
     let above = exceeded _ _ (sym (told .enum-told .given .1) ∙ capped (over told)) in
-    c .refused .ensures ∙ sym (fails _ (λ number. refusedBy number 0) 15 _ _ (ap not above))
+    c .refused .ensures ∙ sym (fails _ refusedFace 15 _ _ (ap not above))
 
 result-of-requires : tie.Need-result-of-requires
 result-of-requires c κs =
@@ -84,7 +86,7 @@ returns-2 : tie.Need-returns-2
 unfolding refusals
 returns-2 c =
     (λ i. record { refusal = record { number = 0; field = 0 }; result = c .result-of .ensures i })
-    ∙ sym (holds _ (λ number. refusedBy number 0) 15 _ _ (ap not (newtons (c .before) .0)) ∙ none-left _ _)
+    ∙ sym (holds _ refusedFace 15 _ _ (ap not (newtons (c .before) .0)) ∙ none-left _ _)
 
 pub work-admitted-spec : {M : Type 1} → statement M
 work-admitted-spec =

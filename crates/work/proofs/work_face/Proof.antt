@@ -12,7 +12,7 @@ use Rattle.joint.specs.declared.Face.{Face}
 use Rattle.strength.specs.declared.BoltStrengths.{BoltStrengths}
 use Rattle.tension.specs.Admissible.{Admissible}
 use Rattle.outcome.specs.declared.Outcome.{Outcome}
-use Rattle.work.specs.Work.{refusedBy, refusals, completed, resultOf, workedFace}
+use Rattle.work.specs.Work.{refusedBy, refusals, completed, resultOf, workedFace, refusedFace}
 use Rattle.work.specs.Steps.{admittedTo}
 use Rattle.work.specs.declared.Admission.{Admission}
 use Rattle.work.specs.declared.Admission.the-variants.{Admitted, Refused}
@@ -23,7 +23,7 @@ use Rattle.work.proofs.work_face.Tie as tie
 -- what an admission comes to is what the face comes to
 module _ (column : Column) (bolt : BoltStrengths) (face : Face) where
   rest : Outcome
-  rest = firstFailing (completed (resultOf column bolt face)) (λ number. refusedBy number 0) (drop 4 (refusals column bolt face))
+  rest = firstFailing (completed (resultOf column bolt face)) refusedFace (drop 4 (refusals column bolt face))
 
   cut : (admission : Admission) → admission ≡ firstFailing Admitted Refused (take 4 (refusals column bolt face))
       → admittedTo rest admission ≡ workedFace column bolt face
@@ -31,7 +31,7 @@ module _ (column : Column) (bolt : BoltStrengths) (face : Face) where
   cut admission e =
       ap (admittedTo rest) e
       ∙ of-each (admittedTo rest) Admitted Refused (take 4 (refusals column bolt face))
-      ∙ sym (one-after-another (completed (resultOf column bolt face)) (λ number. refusedBy number 0)
+      ∙ sym (one-after-another (completed (resultOf column bolt face)) refusedFace
       (take 4 (refusals column bolt face)) (drop 4 (refusals column bolt face)))
 
 -- ---- the places
@@ -66,9 +66,10 @@ work-admitted-requires : tie.Need-work-admitted-requires
 work-admitted-requires c κs =
     let admit = let-in c in
     let s = start admit in
+    let a = s .args in
     let passed = sym (admit .admit .ensures .0) ∙ c .enum-told .given .1 in
     record {
-      admissible = admitted (s .args .column) (s .args .bolt) (s .args .face) (s .pre .column) (s .pre .face) (admit .admit .ensures .1) passed;
+      admissible = admitted (a .column) (a .bolt) (a .face) (s .pre .column) (s .pre .face) (admit .admit .ensures .1) passed;
       bolt = s .pre .bolt;
       measured = admit .before .measures-of .ensures;
     }
