@@ -16,7 +16,7 @@ use Rattle.joint.specs.declared.Column.{Column}
 use Rattle.joint.specs.declared.Bolts.{Bolts}
 use Rattle.joint.specs.declared.Beam.{Beam}
 use Rattle.joint.specs.declared.Plate.{Plate}
-use Rattle.strength.specs.Steel.{bands, steelStrength, steelStrengths, steelBearing, weldStrength}
+use Rattle.strength.specs.Steel.{bands, steelStrength, steelStrengths, steelBearing, eitherIs275, weldStrength}
 use Rattle.strength.specs.Bolt.{boltArea, boltTension, boltShear, boltBearing, boltUltimate, pairTension, pairShear, boltStrengths}
 use Rattle.strength.specs.InRange.{
   yieldStrengths,
@@ -100,7 +100,7 @@ steel-bearing-range grade g = by-key steelBearings grades (460 ∷ 550 ∷ []) t
 -- whatever the grades
 pub weld-range : (beam plate : ℕ) → Within weldStrengths (weldStrength beam plate)
 unfolding weldStrength
-weld-range beam plate = either (eqb beam 275 || eqb plate 275)
+weld-range beam plate = either (eitherIs275 beam plate)
   where
     either : (low : Bool) → Within weldStrengths (cond low 220 250)
     either true = within-yes weldStrengths 220 tt

@@ -1,7 +1,7 @@
 -- Document 01, 'Strengths': steel by grade and thickness, its bearing strength, and welds. What a table doesn't have is 0.
 -- Assumes nothing.
 use Prim.Native.Nat.{ℕ}
-use mathlib.Core.Bool.{cond, _||_}
+use mathlib.Core.Bool.{Bool, cond, _||_}
 use mathlib.Core.List.{List, [], _∷_}
 use lib.Dec.{eqb}
 use Rattle.arithmetic.specs.Table.{lookup, upTo}
@@ -31,6 +31,10 @@ steelStrengths column beam plate = record {
 unfoldable pub steelBearing : (grade : ℕ) → ℕ
 steelBearing = lookup grades (460 ∷ 550 ∷ [])
 
+-- 'if beam or plate is 275'
+abbrev pub eitherIs275 : (beam plate : ℕ) → Bool
+eitherIs275 beam plate = eqb beam 275 || eqb plate 275
+
 -- pw
 unfoldable pub weldStrength : (beam plate : ℕ) → ℕ
-weldStrength beam plate = cond (eqb beam 275 || eqb plate 275) 220 250
+weldStrength beam plate = cond (eitherIs275 beam plate) 220 250
