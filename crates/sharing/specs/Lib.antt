@@ -1,4 +1,5 @@
--- Row groups and their limits, how limits become row forces and which lists compete, and what makes a list the best.
+-- Document 01's: row groups and their limits (`Groups`), how limits become row forces and which lists compete (`Sharing`), and what makes
+-- a list the best, demand 3 for any table (`Best`).
 pub mod Groups
 pub mod Sharing
 pub mod Best
