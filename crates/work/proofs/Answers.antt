@@ -1,28 +1,22 @@
 -- What Work's refusals leave: from an answer that is no refusal, that every test of the list holds, and from those tests what the limits
--- rely on and a cap that isn't below 0. Assumes nothing.
+-- rely on. Assumes nothing.
 use mathlib.Core.Path.{_≡_, refl, sym, ap, _∙_}
-use mathlib.Core.Bool.{Bool, true, false, cond, _&&_, _||_}
-use Prim.Native.Nat.{ℕ, zero, suc}
+use mathlib.Core.Bool.{Bool, true, false, _&&_, _||_}
+use Prim.Native.Nat.{ℕ, suc}
 use native.Mathlib.Omega.{arith}
 use lib.ListN.{length, take}
 use lib.Dec.{ltb}
-use lib.IntN.{ℤ, pos, negsuc, _-ℤ_}
-use lib.Signed.{ltZ}
 use borrow.Author.Tests.{ltb-false, eq-eqb, not-true}
 use Rattle.arithmetic.specs.Checks.{firstFailing}
 use Rattle.arithmetic.proofs.Checks.{numbered, positive, numbered-holds}
 use Rattle.joint.specs.InRange.{ColumnInRange, FaceInRange}
 use Rattle.joint.specs.declared.Column.{Column}
 use Rattle.joint.specs.declared.Face.{Face}
-use Rattle.joint.specs.declared.Loads.{Loads}
 use Rattle.strength.specs.declared.BoltStrengths.{BoltStrengths}
 use Rattle.spacing.specs.Spacing.{spacingOf}
 use Rattle.tension.specs.Admissible.{Admissible}
 use Rattle.refusals.specs.Refusals.{leversFall, tooTight}
 use Rattle.refusals.proofs.Rows.{falls}
-use Rattle.governing.specs.Cap.{tensionCap, overCompressed, newtonsOf}
-use Rattle.governing.specs.Answers.{capCase}
-use Rattle.governing.specs.declared.Cap.the-variants.{Newtons, Exceeded}
 use Rattle.outcome.specs.declared.Outcome.{Outcome}
 use Rattle.work.specs.Work.{refusedBy, refusals, completed, resultOf, workedFace, refusedFace}
 use Rattle.work.specs.declared.Admission.the-variants.{Admitted, Refused}
@@ -52,17 +46,6 @@ admissible column face c f eight falling loose =
       plate-edge = ltb-false _ 1000 (edges .1);
     }
 
--- what 15 leaves: a cap that is its newtons
-pub cap-newtons : (loads : Loads) (force : ℕ) → overCompressed loads force ≡ false
-    → tensionCap loads force ≡ pos (newtonsOf (tensionCap loads force))
-unfolding overCompressed tensionCap
-cap-newtons loads force under = by-sign (loads .axial) under
-  where
-    by-sign : (axial : ℤ) → ltZ (pos force) axial ≡ false → pos force -ℤ axial ≡ pos (newtonsOf (pos force -ℤ axial))
-    by-sign (pos zero) h = refl
-    by-sign (pos (suc n)) h = rw h
-    by-sign (negsuc n) h = refl
-
 -- the same of a face that is admitted
 pub admitted : (column : Column) (bolt : BoltStrengths) (face : Face) → ColumnInRange column → FaceInRange face → length (face .levers) ≡ 8
     → firstFailing Admitted Refused (take 4 (refusals column bolt face)) ≡ Admitted → Admissible column face
@@ -73,25 +56,6 @@ admitted column bolt face c f eight e =
   where
     apart : (number : ℕ) → Refused (suc number) ≡ Admitted → ⊥
     apart number same = let never : _≡_ {A = ℕ} 0 1 = cc in absurd (omega arith)
-
--- which way 15 goes, by the cap's case
-pub exceeded : (loads : Loads) (force : ℕ) → Exceeded ≡ capCase loads force → overCompressed loads force ≡ true
-unfolding capCase
-exceeded loads force e = by-test (overCompressed loads force) e
-  where
-    by-test : (over : Bool) → Exceeded ≡ cond over Exceeded (Newtons (newtonsOf (tensionCap loads force))) → over ≡ true
-    by-test true h = refl
-    by-test false h = let never : _≡_ {A = ℕ} 0 1 = cc in absurd (omega arith)
-
-pub within-cap : (loads : Loads) (force cap : ℕ) → Newtons cap ≡ capCase loads force
-    → (overCompressed loads force ≡ false) × (cap ≡ newtonsOf (tensionCap loads force))
-unfolding capCase
-within-cap loads force cap e = by-test (overCompressed loads force) e
-  where
-    by-test : (over : Bool) → Newtons cap ≡ cond over Exceeded (Newtons (newtonsOf (tensionCap loads force)))
-        → (over ≡ false) × (cap ≡ newtonsOf (tensionCap loads force))
-    by-test true h = let never : _≡_ {A = ℕ} 0 1 = cc in absurd (omega arith)
-    by-test false h = (refl, cc)
 
 -- a refusal has its number
 pub refusal-is : (number field : ℕ) (answer : Outcome) → refusedBy number field ≡ answer → answer .refusal .number ≡ 0 → number ≡ 0

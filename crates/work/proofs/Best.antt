@@ -29,6 +29,7 @@ use Rattle.sharing.proofs.Theorems.{best}
 use Rattle.sharing.proofs.Cap.{cap-is-a-limit}
 use Rattle.tension.specs.Admissible.{Admissible}
 use Rattle.governing.specs.Cap.{newtonsOf}
+use Rattle.governing.proofs.Cases.{cap-newtons}
 use Rattle.verdicts.specs.Bending.{carries}
 use Rattle.verdicts.proofs.Signs.{carries-monotone}
 use Rattle.outcome.specs.declared.Outcome.{Outcome}
@@ -36,7 +37,7 @@ use Rattle.work.specs.OneFace.{rowsOf, leversOf, limitOf, capOf, forcesO
 use Rattle.work.specs.Work.{refusals, resultOf, workedFace, workedBy, worked}
 use Rattle.work.specs.Demand.{CompetesFor, Demand3, Demand3Of, programsList}
 use Rattle.work.proofs.Forces.{rows-kept}
-use Rattle.work.proofs.Answers.{admissible, cap-newtons, refusal-is, not-refused}
+use Rattle.work.proofs.Answers.{admissible, refusal-is, not-refused}
 
 module _ (column : Column) (bolt : BoltStrengths) (face : Face) (a : Admissible column face)
     (eight : length (face .levers) ≡ 8) (cap : capOf column face ≡ pos (newtonsOf (capOf column face))) where

@@ -11,7 +11,7 @@ use Rattle.governing.specs.Cap.{newtonsOf, overCompressed}
 use Rattle.governing.specs.Answers.{capCase}
 use Rattle.work.specs.OneFace.{governingOf, capOf}
 use Rattle.work.specs.Work.{refusals, refusedBy, refusedFace}
-use Rattle.work.proofs.Answers.{exceeded, within-cap}
+use Rattle.governing.proofs.Cases.{exceeded, within-cap}
 use Rattle.work.proofs.work_admitted.Statement.{statement}
 use Rattle.work.proofs.work_admitted.Tie as tie
 
