@@ -106,11 +106,7 @@ fieldChecks column bolts face = fixedChecks column bolts face ++ leverChecks (fa
 unfoldable pub fieldCheck : Column → Bolts → Face → FieldCheck
 fieldCheck column bolts face = firstFailing AllInRange Outside (fieldChecks column bolts face)
 
--- the paper's numbers for the two answers: the refusal, 0 for none, and the field that goes with it
-abbrev pub refusalOf : FieldCheck → ℕ
-refusalOf AllInRange = 0
-refusalOf (Outside field) = 10
-
+-- the field that an answer tells, 0 where all are in range
 abbrev pub fieldOf : FieldCheck → ℕ
 fieldOf AllInRange = 0
 fieldOf (Outside field) = field
