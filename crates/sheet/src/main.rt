@@ -1,5 +1,6 @@
 // The program `sheet`: joint files end to end on standard input, a line for each on standard output. A sheet that was half read or half
 // written must never look whole: an input that can't be read to its end prints no line, and either failure is said on standard error.
+use input::was_read_whole;
 use libc::STDERR_FILENO;
 use libc::STDIN_FILENO;
 use libc::STDOUT_FILENO;
@@ -7,10 +8,9 @@ use printer::Printed;
 ghost use Prim.Native.Nat.{_≤_};
 ghost use mathlib.Core.Path.{_≡_};
 ghost use lib.ListN.{length};
-ghost use Rattle.sheet.specs.Reads.{atEnd};
 ghost use Rattle.sheet.specs.Whole.{Whole};
 
-// One more than a sheet takes, so that an input that is too long is seen to be.
+// One byte more than a sheet takes, so that an input that is too long is seen to be.
 const INPUT_SPACE: usize = 65537;
 
 // Zeros for what is read.
@@ -25,23 +25,6 @@ fn output_space() -> [u8; 618355]
     ensures { λ r. ⌜ 618355 ≡ length r ⌝ }
 {
     [0; 618355]
-}
-
-// Whether a read's answer says that the input has ended.
-fn at_end(answer: isize) -> bool
-    ensures { λ r. ⌜ r ≡ atEnd answer ⌝ }
-{
-    answer == 0
-}
-
-// Whether the input was read to its end, `got` bytes of it. A full space holds too much whatever follows. Short of that reading stopped
-// at the end or at a failure, and one read more tells which.
-fn was_read_whole(got: usize) -> bool {
-    if INPUT_SPACE <= got {
-        return true;
-    }
-    let mut next = [0u8; 1];
-    at_end(libc::read(STDIN_FILENO, &mut next))
 }
 
 // Prints the sheet of the input, whole, to the front of the output. There is always room for it.
@@ -59,7 +42,7 @@ fn print_sheet(input: &[u8], output: &mut [u8]) -> usize
 fn main() {
     let mut input = input_space();
     let got = io::read_full(STDIN_FILENO, &mut input);
-    if !was_read_whole(got) {
+    if !was_read_whole(got, INPUT_SPACE) {
         io::write_all(
             STDERR_FILENO,
             b"sheet: the input could not be read to its end; nothing is printed\n",

@@ -1,8 +1,3 @@
--- What the program's judgements are: the same lists, the answers as lists, the printed tables, what reading a record gives, and when a
--- vector comes out as expected. The definitions compute, and assume nothing.
-pub mod Same
-pub mod Answers
-pub mod Printed
-pub mod Reading
-pub mod Told
-pub mod Vectors
+-- What comparing an answer with a stored one comes to. All else that the program does is proved safe, and no more: its work is to run the
+-- proved calls, and a person reads its lines. Assumes nothing.
+pub mod Difference

@@ -1,93 +1,106 @@
-// Joint files: read, rest and write on stored bytes.
-use crate::stored::Place;
-use crate::stored::fill;
-use crate::stored::fill_words;
-use crate::stored::joint_at;
-use crate::tell::are_bytes;
-use crate::tell::are_items;
-use crate::tell::are_words;
-use crate::tell::bad_record;
-use crate::tell::is_item;
-use fields::fields_of;
+// Joint files on a line: `read BYTES = refusal next J` and `write J size = refusal length BYTES`.
+use crate::compare::Comparison;
+use crate::compare::compare;
+use crate::compare::compare_bytes;
+use crate::reader::Bytes;
+use crate::reader::Place;
+use crate::reader::after_equals;
+use crate::reader::fill;
+use crate::reader::fill_bytes;
+use crate::reader::is_end;
+use crate::reader::put_words;
 use joint::Joint;
 use jointfile::Written;
+use words::joints::joint_of;
+use words::joints::put_joint;
 
-// The part after the first joint is the last `left` bytes, and `next` is where it begins.
-fn is_rest(vector: u64, file: &[u8], next: usize, left: u64) -> bool {
-    let left = left as usize;
-    if file.len() < left {
-        return bad_record(vector);
+// No line has more bytes.
+const MOST_BYTES: usize = 512;
+
+// Refusal, next place, and the words of the joint.
+fn read_numbers(refusal: u32, next: usize, words: [u32; 37]) -> [u64; 39] {
+    let mut numbers = [0u64; 39];
+    let mut i = 0;
+    while i < 37 {
+        numbers[i + 2] = words[i] as u64;
+        i += 1;
     }
-    let from = file.len() - left;
-    is_item(vector, 2, next as u64, from as u64)
-        & are_bytes(vector, jointfile::rest(file), &file[from..])
+    numbers[0] = refusal as u64;
+    numbers[1] = next as u64;
+    numbers
 }
 
-// The refusal and the part after the joint.
-fn is_reading(vector: u64, file: &[u8], refusal: u32, next: usize, should: &[u64; 2]) -> bool {
-    is_item(vector, 1, refusal as u64, should[0]) & is_rest(vector, file, next, should[1])
-}
-
-fn are_levers(vector: u64, are: [u32; 8], should: &[u32; 8]) -> bool {
-    are_words(vector, &are, should)
-}
-
-// A joint's fields and levers.
-fn is_joint(vector: u64, joint: Joint, fields: &[u32; 29], levers: &[u32; 8]) -> bool {
-    let face = joint.face;
-    let levers_read = face.levers;
-    let are_fields = fields_of(joint);
-    are_words(vector, &are_fields, fields) & are_levers(vector, levers_read, levers)
-}
-
-// A record: the joint that is read (zeros in a refusal), the refusal, the length of the rest, the bytes.
-pub fn run_read(vector: u64, bytes: &[u8]) -> bool {
-    let mut fields = [0u32; 29];
-    let mut levers = [0u32; 8];
-    let mut should = [0u64; 2];
-    let first = fill_words(bytes, Place::At(0), &mut fields);
-    let second = fill_words(bytes, first, &mut levers);
-    let Place::At(from) = fill(bytes, second, &mut should) else {
-        return bad_record(vector);
-    };
-    if bytes.len() < from {
-        return bad_record(vector);
-    }
-    let file = &bytes[from..];
+// Reads the joint, and the part after it.
+fn compare_reading(file: &[u8], should: &[u64]) -> Comparison {
     let reading = jointfile::read(file);
-    is_joint(vector, reading.joint, &fields, &levers)
-        & is_reading(vector, file, reading.refusal, reading.next, &should)
+    let next = reading.next;
+    if file.len() < next {
+        return Comparison::BytesDiffer;
+    }
+    let mut words = [0u32; 37];
+    put_joint(reading.joint, &mut words);
+    let are = read_numbers(reading.refusal, next, words);
+    let numbers = compare(&are, should);
+    compare_bytes(numbers, jointfile::rest(file), &file[next..])
 }
 
-// The length, or the refusal.
-fn written_items(written: Written) -> [u64; 2] {
+pub fn run_read(line: &[u8], at: usize) -> Comparison {
+    let mut bytes = [0u8; 512];
+    let Bytes::Read { count, next } = fill_bytes(line, at, &mut bytes) else {
+        return Comparison::Unreadable;
+    };
+    let mut should = [0u64; 39];
+    let end = fill(line, after_equals(line, Place::At(next)), &mut should);
+    if !is_end(line, end) {
+        return Comparison::Unreadable;
+    }
+    if MOST_BYTES < count {
+        return Comparison::Unreadable;
+    }
+    compare_reading(&bytes[..count], &should)
+}
+
+// The refusal and the length.
+fn written_numbers(written: Written) -> [u64; 2] {
     match written {
         Written::Length(length) => [0, length as u64],
         Written::Refused(refusal) => [refusal as u64, 0],
     }
 }
 
-fn is_written(vector: u64, joint: Joint, buffer: &mut [u8], should: &[u64], left: &[u8]) -> bool {
-    let are = written_items(jointfile::write(joint, buffer));
-    are_items(vector, &are, should) & are_bytes(vector, buffer, left)
+// Writes the joint to a buffer.
+fn compare_writing(joint: Joint, buffer: &mut [u8], should: [u64; 2], left: &[u8]) -> Comparison {
+    let are = written_numbers(jointfile::write(joint, buffer));
+    compare_bytes(compare(&are, &should), buffer, left)
 }
 
-// A record: a joint, the refusal, the file's length, and the buffer as the call must leave it. Before the call each byte of it is 165.
-pub fn run_write(vector: u64, bytes: &[u8]) -> bool {
-    let stored = joint_at(bytes);
+// The same to one of so many bytes, each 165 before the call, in hexadecimal a5.
+fn compare_buffer(joint: Joint, size: u64, should: [u64; 2], left: &[u8]) -> Comparison {
+    let length = size as usize;
+    if MOST_BYTES < length {
+        return Comparison::Unreadable;
+    }
+    let mut buffer = [165u8; 512];
+    compare_writing(joint, &mut buffer[..length], should, left)
+}
+
+pub fn run_write(line: &[u8], place: Place) -> Comparison {
+    let mut given = [0u64; 38];
     let mut should = [0u64; 2];
-    let next = stored.next;
-    let Place::At(from) = fill(bytes, next, &mut should) else {
-        return bad_record(vector);
+    let equals = after_equals(line, fill(line, place, &mut given));
+    let Place::At(answer) = fill(line, equals, &mut should) else {
+        return Comparison::Unreadable;
     };
-    if bytes.len() < from {
-        return bad_record(vector);
+    let mut left = [0u8; 512];
+    let Bytes::Read { count, next } = fill_bytes(line, answer, &mut left) else {
+        return Comparison::Unreadable;
+    };
+    let mut joint = [0u32; 37];
+    if !(is_end(line, Place::At(next)) & put_words(&given, &mut joint)) {
+        return Comparison::Unreadable;
     }
-    let left = &bytes[from..];
-    let size = left.len();
-    if 256 < size {
-        return bad_record(vector);
+    if MOST_BYTES < count {
+        return Comparison::Unreadable;
     }
-    let mut buffer = [165u8; 256];
-    is_written(vector, stored.joint, &mut buffer[..size], &should, left)
+    compare_buffer(joint_of(&joint), given[37], should, &left[..count])
 }

@@ -1,72 +1,34 @@
-// Work on stored joints.
-use crate::stored::fill;
-use crate::stored::is_end;
-use crate::stored::joint_at;
-use crate::tell::are_items;
-use crate::tell::bad_record;
-use governing::CompressionCheck;
-use outcome::Outcome;
-ghost use mathlib.Core.Path.{_≡_};
-ghost use Rattle.vectors.specs.Answers.{checkNumber, outcomeItems};
-ghost use Rattle.vectors.specs.Vectors.{workHolds};
+// Work on a line's joint: `work J = refusal field R`.
+use crate::compare::Comparison;
+use crate::compare::compare;
+use crate::reader::Place;
+use crate::reader::fill_sides;
+use crate::reader::put_words;
+use words::joints::joint_of;
+use words::results::put_result;
 
-// The letters F, B, K, S of a compression check, counted from 1.
-pub fn check_number(check: CompressionCheck) -> u64
-    ensures { λ r. ⌜ r ≡ checkNumber check ⌝ }
-{
-    match check {
-        CompressionCheck::Flange(_) => 1,
-        CompressionCheck::Bearing(_) => 2,
-        CompressionCheck::Buckling(_) => 3,
-        CompressionCheck::Panel(_) => 4,
-    }
-}
-
-// Refusal, field, eight forces, sum, newton metres, cap, check and its newtons, four verdicts.
-fn items_of(outcome: Outcome, forces: [u64; 8]) -> [u64; 19]
-    requires { ⌜ forces ≡ outcome .result .forces ⌝ }
-    ensures { λ r. ⌜ r ≡ outcomeItems outcome ⌝ }
-{
+// What the joint of 37 words comes to: refusal, field, and the 17 words of the result.
+pub fn worked_numbers(joint: [u32; 37]) -> [u64; 19] {
+    let outcome = work::work(joint_of(&joint));
+    let refusal = outcome.refusal;
     let result = outcome.result;
-    let verdicts = result.verdicts;
-    let check = result.check;
-    [
-        outcome.refusal.number as u64,
-        outcome.refusal.field as u64,
-        forces[0],
-        forces[1],
-        forces[2],
-        forces[3],
-        forces[4],
-        forces[5],
-        forces[6],
-        forces[7],
-        result.sum,
-        result.newton_metres,
-        result.cap,
-        check_number(check),
-        governing::force_of(check),
-        verdicts.bending as u64,
-        verdicts.bolts as u64,
-        verdicts.flange_weld as u64,
-        verdicts.web_weld as u64,
-    ]
+    let mut numbers = [0u64; 19];
+    put_result(result, &mut numbers[2..]);
+    numbers[0] = refusal.number as u64;
+    numbers[1] = refusal.field as u64;
+    numbers
 }
 
-// A record: a joint, and the items of its outcome.
-pub fn run(vector: u64, bytes: &[u8]) -> bool
-    ensures { λ r. ⌜ r ≡ workHolds (now (bytes .entry)) ⌝ }
-{
-    let stored = joint_at(bytes);
+pub fn run(line: &[u8], place: Place) -> Comparison {
+    let mut given = [0u64; 37];
     let mut should = [0u64; 19];
-    let next = stored.next;
-    let end = fill(bytes, next, &mut should);
-    if !is_end(bytes, end) {
-        return bad_record(vector);
+    if !fill_sides(line, place, &mut given, &mut should) {
+        return Comparison::Unreadable;
     }
-    let outcome = work::work(stored.joint);
-    let result = outcome.result;
-    let forces = result.forces;
-    let are = items_of(outcome, forces);
-    are_items(vector, &are, &should)
+    let mut joint = [0u32; 37];
+    if !put_words(&given, &mut joint) {
+        return Comparison::Unreadable;
+    }
+    let are = worked_numbers(joint);
+    compare(&are, &should)
 }

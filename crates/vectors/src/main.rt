@@ -1,130 +1,123 @@
-// Runs the open calls on stored vectors and compares with what they should answer. Prints, for each kind of vector, how many ran and
-// how many came out as expected, and each that didn't.
+// The program `vectors`: runs the open calls on stored vectors, a line of text each (docs/vectors.md), and compares what they answer with
+// what the line says. Prints how many ran and how many came out as expected under each heading, and each that didn't by its line. An input
+// or an output that fails is said on standard error.
+use compare::Comparison;
+use input::was_read_whole;
+use libc::STDERR_FILENO;
+use libc::STDIN_FILENO;
+use progress::Progress;
+use progress::at_next_line;
+use progress::finish;
+use progress::start;
+use progress::with_comparison;
+use progress::with_heading;
+use reader::Place;
+use reader::after_word;
+use reader::line_end;
 ghost use mathlib.Core.Path.{_≡_};
 ghost use lib.ListN.{length};
-use stored::record_at;
-use tell::bad_record;
-use tell::number;
-use tell::text;
 
-mod cells;
+mod compare;
 mod files;
 mod joints;
 mod limits;
-mod stored;
-mod tell;
+mod printed;
+mod progress;
+mod reader;
 
-// How many vectors ran and came out as expected: of the kind that is at hand, and of all.
-struct Tally {
-    ran: u64,
-    agreed: u64,
-    all_ran: u64,
-    all_agreed: u64,
-}
-
-// The next count; it stops at the greatest.
-fn counted(count: u64, holds: bool) -> u64 {
-    if holds {
-        if count < 18446744073709551615 {
-            return count + 1;
-        }
-    }
-    count
-}
-
-fn tell_counts(ran: u64, agreed: u64) {
-    number(ran);
-    text(b" ran, ");
-    number(agreed);
-    text(b" as expected\n");
-}
-
-// A heading: the counts of the kind before it, and the name of the next.
-fn heading(tally: Tally, name: &[u8]) -> Tally {
-    if 0 < tally.all_ran {
-        text(b"  ");
-        tell_counts(tally.ran, tally.agreed);
-    }
-    text(name);
-    text(b"\n");
-    Tally {
-        ran: 0,
-        agreed: 0,
-        all_ran: tally.all_ran,
-        all_agreed: tally.all_agreed,
-    }
-}
-
-// Runs one vector by its tag: Allocate, a cell of the tables, Read and rest, Write, Work.
-fn agrees(tag: u8, vector: u64, bytes: &[u8]) -> bool {
-    match tag {
-        b'A' => limits::run(vector, bytes),
-        b'C' => cells::run(vector, bytes),
-        b'R' => files::run_read(vector, bytes),
-        b'P' => files::run_write(vector, bytes),
-        b'W' => joints::run(vector, bytes),
-        _ => bad_record(vector),
-    }
-}
-
-fn run_record(tally: Tally, tag: u8, bytes: &[u8]) -> Tally {
-    if tag == b'H' {
-        return heading(tally, bytes);
-    }
-    let ran = counted(tally.ran, true);
-    let agree = agrees(tag, ran, bytes);
-    Tally {
-        ran,
-        agreed: counted(tally.agreed, agree),
-        all_ran: counted(tally.all_ran, true),
-        all_agreed: counted(tally.all_agreed, agree),
-    }
-}
-
-fn run_all(bytes: &[u8]) -> Tally {
-    let mut tally = Tally {
-        ran: 0,
-        agreed: 0,
-        all_ran: 0,
-        all_agreed: 0,
-    };
-    let mut at = 0;
-    while at < bytes.len() {
-        let record = record_at(bytes, at);
-        let start = record.start;
-        let end = record.end;
-        tally = run_record(tally, record.tag, &bytes[start..end]);
-        at = end;
-    }
-    tally
-}
+// One byte more than there may be, so that an input that is too long is seen to be.
+const INPUT_SPACE: usize = 1048577;
 
 // Zeros for what is read.
-fn input_space() -> [u8; 400000]
-    ensures { λ r. ⌜ 400000 ≡ length r ⌝ }
+fn input_space() -> [u8; 1048577]
+    ensures { λ r. ⌜ 1048577 ≡ length r ⌝ }
 {
-    [0; 400000]
+    [0; 1048577]
+}
+
+// Runs the call that a line names.
+fn run_line(line: &[u8]) -> Comparison {
+    if let Place::At(at) = after_word(line, b"work") {
+        return joints::run(line, Place::At(at));
+    }
+    if let Place::At(at) = after_word(line, b"allocate") {
+        return limits::run(line, at);
+    }
+    if let Place::At(at) = after_word(line, b"read") {
+        return files::run_read(line, at);
+    }
+    if let Place::At(at) = after_word(line, b"write") {
+        return files::run_write(line, Place::At(at));
+    }
+    run_printed(line)
+}
+
+// The same for a line with a printed figure.
+fn run_printed(line: &[u8]) -> Comparison {
+    if let Place::At(at) = after_word(line, b"cell") {
+        return printed::run_cell(line, Place::At(at), true);
+    }
+    if let Place::At(at) = after_word(line, b"exception") {
+        return printed::run_cell(line, Place::At(at), false);
+    }
+    if let Place::At(at) = after_word(line, b"shear") {
+        return printed::run_shear(line, Place::At(at));
+    }
+    Comparison::Unreadable
+}
+
+// A heading without its `# `.
+fn heading_of(line: &[u8]) -> &[u8] {
+    if line.len() < 2 {
+        return line;
+    }
+    &line[2..]
+}
+
+// A line by its first byte: nothing, a heading, a note, or else a vector.
+fn with_line(progress: Progress, line: &[u8]) -> Progress {
+    let here = at_next_line(progress);
+    if line.len() == 0 {
+        return here;
+    }
+    let first = line[0];
+    match first {
+        b'#' => with_heading(here, heading_of(line)),
+        b'/' => here,
+        _ => with_comparison(here, run_line(line)),
+    }
+}
+
+fn run_all(text: &[u8]) -> Progress {
+    let mut progress = start();
+    let mut from = 0;
+    while from < text.len() {
+        let end = line_end(text, from);
+        progress = with_line(progress, &text[from..end]);
+        if end == text.len() {
+            break;
+        }
+        from = end + 1;
+    }
+    progress
+}
+
+fn tell_failure(text: &[u8]) {
+    io::write_all(STDERR_FILENO, text);
 }
 
 fn main() {
-    let mut input = input_space();
-    let size = io::read_full(0, &mut input);
-    if size == 400000 {
-        text(b"The input is too long.\n");
+    let mut text = input_space();
+    let size = io::read_full(STDIN_FILENO, &mut text);
+    if !was_read_whole(size, INPUT_SPACE) {
+        tell_failure(b"vectors: the input could not be read to its end; nothing is run\n");
         return;
     }
-    if size == 0 {
-        text(b"There are no vectors.\n");
+    if INPUT_SPACE <= size {
+        tell_failure(b"vectors: the input is longer than 1048576 bytes; nothing is run\n");
         return;
     }
-    let tally = run_all(&input[..size]);
-    text(b"  ");
-    tell_counts(tally.ran, tally.agreed);
-    text(b"All: ");
-    tell_counts(tally.all_ran, tally.all_agreed);
-    if tally.all_ran == tally.all_agreed {
-        text(b"All as expected.\n");
-    } else {
-        text(b"NOT ALL AS EXPECTED.\n");
+    if !finish(run_all(&text[..size])) {
+        tell_failure(b"vectors: the output could not be written whole\n");
     }
 }

@@ -1,4 +1,4 @@
--- `vectors::files::run_write` is safe and ends: the needs are facts on numbers. Assumes nothing.
+-- `vectors::files::run_write` is safe and ends. Assumes nothing.
 use mathlib.Core.Path.{sym}
 use native.Mathlib.Omega.{arith}
 use lib.Seq.{length-take-le}
@@ -6,83 +6,111 @@ use borrow.Author.Needs.{needs}
 use Rattle.vectors.proofs.files.run_write.Statement.{statement}
 use Rattle.vectors.proofs.files.run_write.Tie as tie
 
-joint-at-requires : tie.Need-joint-at-requires
-joint-at-requires c κs = search needs
-
 slice-aggregate-fill : tie.Need-slice-aggregate-fill
 slice-aggregate-fill c = search needs
 
 fill-requires : tie.Need-fill-requires
 fill-requires c κs = search needs
 
-enum-known-from : tie.Need-enum-known-from
-enum-known-from c = search needs
+after-equals-requires : tie.Need-after-equals-requires
+after-equals-requires c κs = search needs
+
+slice-aggregate-fill-2 : tie.Need-slice-aggregate-fill-2
+slice-aggregate-fill-2 c = search needs
+
+fill-requires-2 : tie.Need-fill-requires-2
+fill-requires-2 c κs = search needs
+
+enum-known-answer : tie.Need-enum-known-answer
+enum-known-answer c = search needs
 
 enum-told : tie.Need-enum-told
 enum-told c = search needs
 
-bad-record-requires : tie.Need-bad-record-requires
-bad-record-requires c κs = search needs
-
 returns : tie.Need-returns
 returns c = search needs
 
-bad-record-requires-2 : tie.Need-bad-record-requires-2
-bad-record-requires-2 c κs = search needs
+slice-aggregate-fill-bytes : tie.Need-slice-aggregate-fill-bytes
+slice-aggregate-fill-bytes c = search needs
+
+fill-bytes-requires : tie.Need-fill-bytes-requires
+fill-bytes-requires c κs = search needs
+
+enum-known-count : tie.Need-enum-known-count
+enum-known-count c = search needs
+
+enum-told-2 : tie.Need-enum-told-2
+enum-told-2 c = search needs
 
 returns-2 : tie.Need-returns-2
 returns-2 c = search needs
 
-sub-left : tie.Need-sub-left
-sub-left c = search needs
+is-end-requires : tie.Need-is-end-requires
+is-end-requires c κs = search needs
 
-part-left-start : tie.Need-part-left-start
-part-left-start c = search needs
+slice-aggregate-put-words : tie.Need-slice-aggregate-put-words
+slice-aggregate-put-words c = search needs
 
-part-left-end : tie.Need-part-left-end
-part-left-end c = search needs
+slice-aggregate-put-words-2 : tie.Need-slice-aggregate-put-words-2
+slice-aggregate-put-words-2 c = search needs
 
-bad-record-requires-3 : tie.Need-bad-record-requires-3
-bad-record-requires-3 c κs = search needs
+put-words-requires : tie.Need-put-words-requires
+put-words-requires c κs = search needs
 
 returns-3 : tie.Need-returns-3
 returns-3 c = search needs
 
-array-borrow-prefix-buffer : tie.Need-array-borrow-prefix-buffer
-array-borrow-prefix-buffer c = search needs
-
-slice-aggregate-is-written : tie.Need-slice-aggregate-is-written
-slice-aggregate-is-written c = sym (length-take-le _ _ (omega arith))
-
-slice-aggregate-is-written-2 : tie.Need-slice-aggregate-is-written-2
-slice-aggregate-is-written-2 c = search needs
-
-is-written-requires : tie.Need-is-written-requires
-is-written-requires c κs = search needs
-
 returns-4 : tie.Need-returns-4
 returns-4 c = search needs
+
+slice-aggregate-joint-of : tie.Need-slice-aggregate-joint-of
+slice-aggregate-joint-of c = search needs
+
+joint-of-requires : tie.Need-joint-of-requires
+joint-of-requires c κs = search needs
+
+array-read-compare-buffer : tie.Need-array-read-compare-buffer
+array-read-compare-buffer c = search needs
+
+array-share-prefix-left : tie.Need-array-share-prefix-left
+array-share-prefix-left c = search needs
+
+slice-aggregate-compare-buffer : tie.Need-slice-aggregate-compare-buffer
+slice-aggregate-compare-buffer c = sym (length-take-le _ _ (omega arith))
+
+compare-buffer-requires : tie.Need-compare-buffer-requires
+compare-buffer-requires c κs = search needs
+
+returns-5 : tie.Need-returns-5
+returns-5 c = search needs
 
 pub run-write-spec : {M : Type 1} → statement M
 run-write-spec =
     tie.close
     (tie.spec
-    joint-at-requires
     slice-aggregate-fill
     fill-requires
-    enum-known-from
+    after-equals-requires
+    slice-aggregate-fill-2
+    fill-requires-2
+    enum-known-answer
     enum-told
-    bad-record-requires
     returns
-    bad-record-requires-2
+    slice-aggregate-fill-bytes
+    fill-bytes-requires
+    enum-known-count
+    enum-told-2
     returns-2
-    sub-left
-    part-left-start
-    part-left-end
-    bad-record-requires-3
+    is-end-requires
+    slice-aggregate-put-words
+    slice-aggregate-put-words-2
+    put-words-requires
     returns-3
-    array-borrow-prefix-buffer
-    slice-aggregate-is-written
-    slice-aggregate-is-written-2
-    is-written-requires
-    returns-4)
+    returns-4
+    slice-aggregate-joint-of
+    joint-of-requires
+    array-read-compare-buffer
+    array-share-prefix-left
+    slice-aggregate-compare-buffer
+    compare-buffer-requires
+    returns-5)
