@@ -1,7 +1,7 @@
 //! The plain calls over the same words and bytes as the proved ones. None is inlined, as the proved ones can't be.
 
 use proved::{FORCES, JOINT_WORDS, RESULT_WORDS};
-use reference::{Joint, Outcome};
+use reference::{FaceResult, Joint};
 
 #[inline(never)]
 pub fn read(file: &[u8], words: &mut [u32; JOINT_WORDS], next: &mut usize) -> u32 {
@@ -40,25 +40,25 @@ pub fn allocate(count: usize, limits: &[u64], forces: &mut [u64; FORCES]) -> u32
 #[inline(never)]
 pub fn work(words: &[u32; JOINT_WORDS], result: &mut [u64; RESULT_WORDS]) -> u32 {
     match reference::work(&Joint::from_fields(words)) {
-        Ok(outcome) => {
-            put_result(&outcome, result);
+        Ok(worked) => {
+            put_result(&worked, result);
             0
         }
         Err(refusal) => refusal.number() + 256 * refusal.field(),
     }
 }
 
-fn put_result(outcome: &Outcome, words: &mut [u64; RESULT_WORDS]) {
-    words[..8].copy_from_slice(&outcome.forces);
+fn put_result(result: &FaceResult, words: &mut [u64; RESULT_WORDS]) {
+    words[..8].copy_from_slice(&result.forces);
     words[8..].copy_from_slice(&[
-        outcome.sum,
-        outcome.newton_metres,
-        outcome.cap,
-        outcome.check as u64,
-        outcome.governing_force,
-        u64::from(outcome.verdicts.bending),
-        u64::from(outcome.verdicts.bolts),
-        u64::from(outcome.verdicts.flange_weld),
-        u64::from(outcome.verdicts.web_weld),
+        result.sum,
+        result.newton_metres,
+        result.cap,
+        result.check as u64,
+        result.governing_force,
+        u64::from(result.verdicts.bending),
+        u64::from(result.verdicts.bolts),
+        u64::from(result.verdicts.flange_weld),
+        u64::from(result.verdicts.web_weld),
     ]);
 }

@@ -2,7 +2,9 @@
 
 use crate::tally::Tally;
 use proved::{longest_sheet, FORCES, JOINT_WORDS, NO_ROOM, RESULT_WORDS, SHORT};
-use reference::{Check, Joint, Outcome, WorkRefusal, LONGEST_FILE, LONGEST_INPUT};
+use reference::{
+    Check, Face, FaceResult, Joint, Verdicts, WorkRefusal, LONGEST_FILE, LONGEST_INPUT,
+};
 use sample::{any_joint, Random, Table};
 use std::fmt::Debug;
 
@@ -38,13 +40,13 @@ pub fn compare_work(joint: &Joint, tally: &mut Tally) -> Result<(), Difference> 
     let worked = reference::work(joint);
     let mut expected = [MARK_64; RESULT_WORDS + 1];
     let (number, field) = match &worked {
-        Ok(outcome) => {
-            expected[..RESULT_WORDS].copy_from_slice(&result_words(outcome));
+        Ok(result) => {
+            expected[..RESULT_WORDS].copy_from_slice(&result_words(result));
             (0, 0)
         }
         Err(refusal) => (refusal.number(), refusal.field()),
     };
-    count_worked(joint, &worked, tally);
+    count_worked(&joint.face, &worked, tally);
     same(
         "work",
         &fields,
@@ -59,24 +61,24 @@ pub fn compare_work(joint: &Joint, tally: &mut Tally) -> Result<(), Difference> 
 }
 
 /// A result as the exported call gives it.
-fn result_words(outcome: &Outcome) -> [u64; RESULT_WORDS] {
+fn result_words(result: &FaceResult) -> [u64; RESULT_WORDS] {
     let mut words = [0; RESULT_WORDS];
-    words[..8].copy_from_slice(&outcome.forces);
-    words[8] = outcome.sum;
-    words[9] = outcome.newton_metres;
-    words[10] = outcome.cap;
-    words[11] = outcome.check as u64;
-    words[12] = outcome.governing_force;
-    words[13] = u64::from(outcome.verdicts.bending);
-    words[14] = u64::from(outcome.verdicts.bolts);
-    words[15] = u64::from(outcome.verdicts.flange_weld);
-    words[16] = u64::from(outcome.verdicts.web_weld);
+    words[..8].copy_from_slice(&result.forces);
+    words[8] = result.sum;
+    words[9] = result.newton_metres;
+    words[10] = result.cap;
+    words[11] = result.check as u64;
+    words[12] = result.governing_force;
+    words[13] = u64::from(result.verdicts.bending);
+    words[14] = u64::from(result.verdicts.bolts);
+    words[15] = u64::from(result.verdicts.flange_weld);
+    words[16] = u64::from(result.verdicts.web_weld);
     words
 }
 
-fn count_worked(joint: &Joint, worked: &Result<Outcome, WorkRefusal>, tally: &mut Tally) {
-    let outcome = match worked {
-        Ok(outcome) => outcome,
+fn count_worked(face: &Face, worked: &Result<FaceResult, WorkRefusal>, tally: &mut Tally) {
+    let result = match worked {
+        Ok(result) => result,
         Err(refusal) => {
             if let WorkRefusal::Field(field) = refusal {
                 tally.count_field(*field);
@@ -85,22 +87,25 @@ fn count_worked(joint: &Joint, worked: &Result<Outcome, WorkRefusal>, tally: &mu
         }
     };
     tally.count("work: worked");
-    tally.count_rows(joint.rows);
-    tally.count(if joint.extended == 1 {
+    tally.count_rows(face.rows);
+    tally.count(if face.is_extended() {
         "work: extended"
     } else {
         "work: flush"
     });
-    tally.count(match outcome.check {
+    tally.count(match result.check {
         Check::Flange => "work: governed by F",
         Check::Bearing => "work: governed by B",
         Check::Buckling => "work: governed by K",
         Check::Panel => "work: governed by S",
     });
-    if outcome.sum == outcome.cap {
+    if result.sum == result.cap {
         tally.count("work: limited by the cap");
     }
-    let verdicts = outcome.verdicts;
+    count_verdicts(&result.verdicts, tally);
+}
+
+fn count_verdicts(verdicts: &Verdicts, tally: &mut Tally) {
     tally.count(if verdicts.bending {
         "work: bending passes"
     } else {
@@ -305,10 +310,17 @@ fn count_sheet(bytes: &[u8], lines: &[u8], tally: &mut Tally) {
 
 pub fn compare_short(random: &mut Random, tally: &mut Tally) -> Result<(), Difference> {
     let joint = any_joint(random);
-    let fields = joint.to_fields();
-    let few_fields = &fields[..random.below(JOINT_WORDS as u64) as usize];
-
     tally.count("short: allocate");
+    short_allocate(random)?;
+    tally.count("short: read");
+    short_read(&joint, random)?;
+    tally.count("short: write");
+    short_write(&joint, random)?;
+    tally.count("short: work");
+    short_work(&joint, random)
+}
+
+fn short_allocate(random: &mut Random) -> Result<(), Difference> {
     let mut forces = vec![MARK_64; random.below(FORCES as u64) as usize];
     let untouched = forces.clone();
     let answer = proved::allocate(1, &[1], &mut forces);
@@ -317,10 +329,11 @@ pub fn compare_short(random: &mut Random, tally: &mut Tally) -> Result<(), Diffe
         &forces.len(),
         (answer, &forces),
         (SHORT, &untouched),
-    )?;
+    )
+}
 
-    tally.count("short: read");
-    let file = sample::file_of(&joint);
+fn short_read(joint: &Joint, random: &mut Random) -> Result<(), Difference> {
+    let file = sample::file_of(joint);
     let mut words = vec![MARK_32; random.below(JOINT_WORDS as u64) as usize];
     let untouched = words.clone();
     let mut next = MARK_PLACE;
@@ -330,9 +343,12 @@ pub fn compare_short(random: &mut Random, tally: &mut Tally) -> Result<(), Diffe
         &(&file, words.len()),
         (answer, &words, next),
         (SHORT, &untouched, MARK_PLACE),
-    )?;
+    )
+}
 
-    tally.count("short: write");
+fn short_write(joint: &Joint, random: &mut Random) -> Result<(), Difference> {
+    let fields = joint.to_fields();
+    let few_fields = &fields[..random.below(JOINT_WORDS as u64) as usize];
     let mut buffer = [MARK_8; LONGEST_FILE];
     let mut length = MARK_PLACE;
     let answer = proved::write(few_fields, &mut buffer, &mut length);
@@ -341,9 +357,13 @@ pub fn compare_short(random: &mut Random, tally: &mut Tally) -> Result<(), Diffe
         &few_fields,
         (answer, buffer, length),
         (SHORT, [MARK_8; LONGEST_FILE], MARK_PLACE),
-    )?;
+    )
+}
 
-    tally.count("short: work");
+/// Too few fields, and too few places for the result.
+fn short_work(joint: &Joint, random: &mut Random) -> Result<(), Difference> {
+    let fields = joint.to_fields();
+    let few_fields = &fields[..random.below(JOINT_WORDS as u64) as usize];
     let mut result = [MARK_64; RESULT_WORDS];
     let answer = proved::work(few_fields, &mut result);
     same(

@@ -1,28 +1,23 @@
 //! The compression side: four checks, the first least of which governs.
 
-use crate::joint::Joint;
+use crate::joint::{Column, Face};
 use crate::outcome::Check;
-use crate::strength::{square, Strengths};
+use crate::strength::{square, SteelStrengths};
 
 /// The governing check with its force in newtons.
-pub fn governing(joint: &Joint, strengths: &Strengths) -> (Check, u64) {
+pub fn governing(column: &Column, face: &Face, steel: &SteelStrengths) -> (Check, u64) {
+    let beam = &face.beam;
     let bearing_length = u64::from(
-        joint.beam_flange
-            + 2 * joint.flange_weld
-            + 2 * joint.plate_thickness
-            + 5 * (joint.column_flange + joint.column_root),
+        beam.flange
+            + 2 * face.welds.flange
+            + 2 * face.plate.thickness
+            + 5 * (column.flange + column.radius),
     );
-    let web = u64::from(joint.column_web);
-    let flange =
-        7 * strengths.beam * u64::from(joint.beam_flange) * u64::from(joint.beam_width) / 500;
-    let bearing = bearing_length * web * strengths.column / 100;
-    let buckling = web_buckling(
-        bearing_length,
-        joint.column_clear,
-        joint.column_web,
-        strengths.column,
-    );
-    let panel = 3 * strengths.column * web * u64::from(joint.column_depth) / 500;
+    let web = u64::from(column.web);
+    let flange = 7 * steel.beam * u64::from(beam.flange) * u64::from(beam.width) / 500;
+    let bearing = bearing_length * web * steel.column / 100;
+    let buckling = web_buckling(bearing_length, column.clear, column.web, steel.column);
+    let panel = 3 * steel.column * web * u64::from(column.depth) / 500;
 
     let mut least = (Check::Flange, flange);
     for other in [

@@ -1,12 +1,10 @@
 //! Joint files: numbers in groups of seven bits, lowest first, the top bit set when more follow.
 
-use crate::joint::{Joint, FIELDS, ROWS};
+use crate::joint::{Joint, FIELDS, HEAD, ROWS};
 
 /// A file of eight rows whose numbers but the row count take five bytes each.
 pub const LONGEST_FILE: usize = 1 + 36 * 5;
 
-/// The fields before the levers.
-const HEAD: usize = FIELDS - ROWS;
 /// Where the axial force stands.
 const AXIAL: usize = 26;
 
@@ -49,15 +47,16 @@ pub fn rest(bytes: &[u8]) -> &[u8] {
 
 /// Puts the joint's file at the front of the buffer and answers its length.
 pub fn write(joint: &Joint, buffer: &mut [u8]) -> Result<usize, WriteRefusal> {
-    let rows = joint.row_count();
+    let face = &joint.face;
+    let rows = face.row_count();
     if !(1..=ROWS).contains(&rows) {
         return Err(WriteRefusal::RowCount);
     }
-    if joint.levers[rows..].iter().any(|&lever| lever != 0) {
+    if face.levers[rows..].iter().any(|&lever| lever != 0) {
         return Err(WriteRefusal::SpareLever);
     }
     let mut fields = joint.to_fields();
-    fields[AXIAL] = stored(joint.axial);
+    fields[AXIAL] = stored(face.loads.axial);
     let numbers = &fields[..HEAD + rows];
     if let Some(front) = buffer.first_chunk_mut() {
         return Ok(put_numbers(front, numbers));

@@ -14,8 +14,8 @@ mod verdict;
 mod work;
 
 pub use file::{read, rest, write, ReadRefusal, WriteRefusal, LONGEST_FILE};
-pub use joint::{Joint, FIELDS, ROWS};
-pub use outcome::{Check, Outcome, Verdicts, WorkRefusal};
+pub use joint::{Beam, Bolts, Column, Face, Joint, Layout, Loads, Plate, Welds, FIELDS, ROWS};
+pub use outcome::{Check, FaceResult, Verdicts, WorkRefusal};
 pub use sharing::{allocate, AllocateRefusal, GROUPS};
 pub use sheet::{sheet, LONGEST_INPUT};
 pub use work::work;

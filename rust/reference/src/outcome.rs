@@ -29,8 +29,9 @@ pub struct Verdicts {
     pub web_weld: bool,
 }
 
+/// What one face of the column comes to.
 #[derive(Clone, Copy, Debug, PartialEq, Eq)]
-pub struct Outcome {
+pub struct FaceResult {
     /// newtons, 0 past the last row
     pub forces: [u64; ROWS],
     pub sum: u64,

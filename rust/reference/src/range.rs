@@ -1,6 +1,6 @@
 //! Refusal 10: each field's range.
 
-use crate::joint::{Joint, ROWS};
+use crate::joint::{Bolts, Column, Face, HEAD, ROWS};
 use std::ops::RangeInclusive;
 
 const FORCE: i32 = 10_000_000;
@@ -13,63 +13,65 @@ const LEG: RangeInclusive<u32> = 30..=250;
 const LEVER: RangeInclusive<u32> = 1..=20000;
 
 /// The number, from 1, of the first field that is out of its range.
-pub fn first_outside(joint: &Joint) -> Option<u32> {
-    let edge = if joint.is_extended() {
-        150..=2000
-    } else {
-        0..=0
-    };
-    let within = |range: RangeInclusive<u32>, value: u32| range.contains(&value);
-    let head = [
-        within(1..=ROWS as u32, joint.rows),
-        within(0..=1, joint.extended),
-        matches!(joint.bolt_class, 46 | 88 | 109),
-        matches!(joint.bolt_diameter, 12 | 16 | 20 | 24 | 30),
-        is_grade(joint.column_grade),
-        is_grade(joint.beam_grade),
-        is_grade(joint.plate_grade),
-        within(DEPTH, joint.column_depth),
-        within(WIDTH, joint.column_width),
-        within(FLANGE, joint.column_flange),
-        within(WEB, joint.column_web),
-        within(0..=400, joint.column_root),
-        within(500..=14000, joint.column_clear),
-        within(DEPTH, joint.beam_depth),
-        within(WIDTH, joint.beam_width),
-        within(FLANGE, joint.beam_flange),
-        within(WEB, joint.beam_web),
-        within(500..=6000, joint.plate_width),
-        within(60..=500, joint.plate_thickness),
-        within(300..=3000, joint.gauge),
-        within(edge, joint.edge),
-        within(400..=800, joint.alpha),
-        within(LEG, joint.flange_weld),
-        within(LEG, joint.web_weld),
-        within(0..=15000, joint.web_weld_length),
-        within(0..=8, joint.shear_rows),
-        (-FORCE..=FORCE).contains(&joint.axial),
-        within(LOAD, joint.shear),
-        within(LOAD, joint.moment),
-    ];
+pub fn first_outside(column: &Column, bolts: &Bolts, face: &Face) -> Option<u32> {
+    let head = fields_hold(column, bolts, face);
     if let Some(place) = head.iter().position(|&holds| !holds) {
         return Some(place as u32 + 1);
     }
-    let rows = joint.row_count();
-    let lever_holds = |(row, &lever): (usize, &u32)| {
-        if row < rows {
-            LEVER.contains(&lever)
-        } else {
-            lever == 0
-        }
-    };
-    joint
-        .levers
-        .iter()
-        .enumerate()
-        .position(|lever| !lever_holds(lever))
-        .map(|row| row as u32 + 30)
+    let (used, spare) = face.levers.split_at(face.row_count());
+    let used_hold = used.iter().map(|lever| LEVER.contains(lever));
+    let spare_hold = spare.iter().map(|&lever| lever == 0);
+    used_hold
+        .chain(spare_hold)
+        .position(|holds| !holds)
+        .map(|row| (HEAD + row) as u32 + 1)
+}
+
+/// Whether each field before the levers is in its range.
+fn fields_hold(column: &Column, bolts: &Bolts, face: &Face) -> [bool; HEAD] {
+    let within = |range: RangeInclusive<u32>, value: u32| range.contains(&value);
+    [
+        within(1..=ROWS as u32, face.rows),
+        within(0..=1, face.extended),
+        matches!(bolts.class, 46 | 88 | 109),
+        matches!(bolts.diameter, 12 | 16 | 20 | 24 | 30),
+        is_grade(column.grade),
+        is_grade(face.beam.grade),
+        is_grade(face.plate.grade),
+        within(DEPTH, column.depth),
+        within(WIDTH, column.width),
+        within(FLANGE, column.flange),
+        within(WEB, column.web),
+        within(0..=400, column.radius),
+        within(500..=14000, column.clear),
+        within(DEPTH, face.beam.depth),
+        within(WIDTH, face.beam.width),
+        within(FLANGE, face.beam.flange),
+        within(WEB, face.beam.web),
+        within(500..=6000, face.plate.width),
+        within(60..=500, face.plate.thickness),
+        within(300..=3000, face.layout.gauge),
+        within(edges(face), face.layout.edge),
+        within(400..=800, face.layout.alpha),
+        within(LEG, face.welds.flange),
+        within(LEG, face.welds.web),
+        within(0..=15000, face.welds.length),
+        within(0..=8, face.shear_rows),
+        (-FORCE..=FORCE).contains(&face.loads.axial),
+        within(LOAD, face.loads.shear),
+        within(LOAD, face.loads.moment),
+    ]
 }
 
 fn is_grade(grade: u32) -> bool {
     matches!(grade, 275 | 355)
+}
+
+/// A flush plate has no edge distance.
+fn edges(face: &Face) -> RangeInclusive<u32> {
+    if face.is_extended() {
+        150..=2000
+    } else {
+        0..=0
+    }
 }

@@ -1,8 +1,8 @@
 //! The sheet: joint files end to end in, a line for each out.
 
 use crate::file::read;
-use crate::joint::Joint;
-use crate::outcome::{Outcome, WorkRefusal};
+use crate::joint::Face;
+use crate::outcome::{FaceResult, WorkRefusal};
 use crate::work::work;
 
 /// Bytes of the longest input that is taken.
@@ -24,34 +24,34 @@ pub fn sheet(input: &[u8], out: &mut Vec<u8>) {
                 return;
             }
             Ok((joint, after)) => {
-                line(number, &joint, &work(&joint), out);
+                line(number, &joint.face, &work(&joint), out);
                 rest = after;
             }
         }
     }
 }
 
-fn line(number: u64, joint: &Joint, worked: &Result<Outcome, WorkRefusal>, out: &mut Vec<u8>) {
+fn line(number: u64, face: &Face, worked: &Result<FaceResult, WorkRefusal>, out: &mut Vec<u8>) {
     match worked {
-        Ok(outcome) => outcome_line(number, joint, outcome, out),
+        Ok(result) => result_line(number, face, result, out),
         Err(refusal) => refusal_line(number, refusal.number(), refusal.field(), out),
     }
 }
 
-fn outcome_line(number: u64, joint: &Joint, outcome: &Outcome, out: &mut Vec<u8>) {
+fn result_line(number: u64, face: &Face, result: &FaceResult, out: &mut Vec<u8>) {
     decimal(number, out);
-    spaced(u64::from(joint.rows), out);
-    for &force in &outcome.forces[..joint.row_count()] {
+    spaced(u64::from(face.rows), out);
+    for &force in &result.forces[..face.row_count()] {
         spaced(force, out);
     }
-    spaced(outcome.sum, out);
-    spaced(outcome.newton_metres, out);
-    spaced(outcome.cap, out);
-    let verdicts = &outcome.verdicts;
+    spaced(result.sum, out);
+    spaced(result.newton_metres, out);
+    spaced(result.cap, out);
+    let verdicts = &result.verdicts;
     let pass = |passes: bool| if passes { b'P' } else { b'F' };
     out.extend_from_slice(&[
         b' ',
-        outcome.check.letter(),
+        result.check.letter(),
         b' ',
         pass(verdicts.bending),
         b' ',

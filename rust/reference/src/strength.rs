@@ -1,40 +1,49 @@
 //! Strengths in newtons per square millimetre.
 
-use crate::joint::Joint;
+use crate::joint::{Beam, Bolts, Column, Face, Plate};
 
-/// What a joint's steel, bolts and welds give; looked up once.
+/// Yield strengths of the steel parts.
 #[derive(Clone, Copy, Debug)]
-pub struct Strengths {
+pub struct SteelStrengths {
     pub column: u64,
     pub beam: u64,
     pub plate: u64,
+}
+
+impl SteelStrengths {
+    pub fn of(column: &Column, face: &Face) -> SteelStrengths {
+        let Face { beam, plate, .. } = face;
+        SteelStrengths {
+            column: steel(column.grade, column.flange),
+            beam: steel(beam.grade, beam.flange),
+            plate: steel(plate.grade, plate.thickness),
+        }
+    }
+}
+
+/// What a joint's bolts give; looked up once.
+#[derive(Clone, Copy, Debug)]
+pub struct BoltStrengths {
+    /// in millimetres
+    pub diameter: u64,
     /// W, newtons: the tension of a row's two bolts
     pub pair_tension: u64,
     /// S, newtons: the shear of a row's two bolts
     pub pair_shear: u64,
-    pub bolt_bearing: u64,
-    pub bolt_ultimate: u64,
-    pub column_bearing: u64,
-    pub plate_bearing: u64,
-    pub weld: u64,
+    pub bearing: u64,
+    pub ultimate: u64,
 }
 
-impl Strengths {
-    pub fn of(joint: &Joint) -> Strengths {
-        let area = bolt_area(joint.bolt_diameter);
-        let (tension, shear, bolt_bearing, bolt_ultimate) = bolt_class(joint.bolt_class);
-        let any_275 = joint.beam_grade == 275 || joint.plate_grade == 275;
-        Strengths {
-            column: steel(joint.column_grade, joint.column_flange),
-            beam: steel(joint.beam_grade, joint.beam_flange),
-            plate: steel(joint.plate_grade, joint.plate_thickness),
+impl BoltStrengths {
+    pub fn of(bolts: &Bolts) -> BoltStrengths {
+        let area = bolt_area(bolts.diameter);
+        let (tension, shear, bearing, ultimate) = bolt_class(bolts.class);
+        BoltStrengths {
+            diameter: u64::from(bolts.diameter),
             pair_tension: 2 * area * tension / 10,
             pair_shear: 2 * area * shear / 10,
-            bolt_bearing,
-            bolt_ultimate,
-            column_bearing: steel_bearing(joint.column_grade),
-            plate_bearing: steel_bearing(joint.plate_grade),
-            weld: if any_275 { 220 } else { 250 },
+            bearing,
+            ultimate,
         }
     }
 }
@@ -49,11 +58,21 @@ fn steel(grade: u32, thickness: u32) -> u64 {
     u64::from(grade) - less
 }
 
-fn steel_bearing(grade: u32) -> u64 {
+/// What the steel of a part bears.
+pub fn steel_bearing(grade: u32) -> u64 {
     if grade == 275 {
         460
     } else {
         550
+    }
+}
+
+/// Of the weld between beam and plate.
+pub fn weld_strength(beam: &Beam, plate: &Plate) -> u64 {
+    if beam.grade == 275 || plate.grade == 275 {
+        220
+    } else {
+        250
     }
 }
 
@@ -78,12 +97,15 @@ fn bolt_class(class: u32) -> (u64, u64, u64, u64) {
 }
 
 /// Refusal 14: flange and plate both too thick to yield before the bolts break.
-pub fn both_too_thick(joint: &Joint, strengths: &Strengths) -> bool {
-    let diameter = u64::from(joint.bolt_diameter);
-    let most = 10000 * diameter * diameter * strengths.bolt_ultimate;
+pub fn both_too_thick(
+    column: &Column,
+    plate: &Plate,
+    steel: &SteelStrengths,
+    bolt: &BoltStrengths,
+) -> bool {
+    let most = 10000 * bolt.diameter * bolt.diameter * bolt.ultimate;
     let too_thick = |thickness: u32, strength: u64| 361 * square(thickness) * strength > most;
-    too_thick(joint.column_flange, strengths.column)
-        && too_thick(joint.plate_thickness, strengths.plate)
+    too_thick(column.flange, steel.column) && too_thick(plate.thickness, steel.plate)
 }
 
 pub fn square(length: u32) -> u64 {
@@ -96,19 +118,30 @@ mod tests {
 
     #[test]
     fn thickness_of_checked_joint_g() {
-        let joint = |flange| Joint {
-            bolt_class: 88,
-            bolt_diameter: 24,
-            column_grade: 275,
-            beam_grade: 275,
-            plate_grade: 275,
-            column_flange: flange,
-            plate_thickness: 500,
-            ..Joint::default()
+        let bolt = BoltStrengths::of(&Bolts {
+            class: 88,
+            diameter: 24,
+        });
+        let plate = Plate {
+            grade: 275,
+            thickness: 500,
+            ..Plate::default()
         };
-        let too_thick = |joint: Joint| both_too_thick(&joint, &Strengths::of(&joint));
-        assert!(!too_thick(joint(219)));
-        assert!(too_thick(joint(220)));
+        let face = Face {
+            plate,
+            ..Face::default()
+        };
+        let too_thick = |flange| {
+            let column = Column {
+                grade: 275,
+                flange,
+                ..Column::default()
+            };
+            let steel = SteelStrengths::of(&column, &face);
+            both_too_thick(&column, &plate, &steel, &bolt)
+        };
+        assert!(!too_thick(219));
+        assert!(too_thick(220));
     }
 
     #[test]

@@ -1,8 +1,9 @@
 //! The limit of each group of rows. Lengths are in hundredths of a millimetre unless said.
 
-use crate::joint::Joint;
+use crate::joint::{Column, Face};
 use crate::sharing::GROUPS;
-use crate::strength::{square, Strengths};
+use crate::strength::{square, BoltStrengths, SteelStrengths};
+use std::cmp::Ordering;
 
 /// The distances that bending needs: m and e of both sides, mx of the extension row.
 #[derive(Clone, Copy, Debug)]
@@ -16,18 +17,19 @@ pub struct Distances {
 
 impl Distances {
     /// None is refusal 13: a distance that is too small.
-    pub fn of(joint: &Joint) -> Option<Distances> {
+    pub fn of(column: &Column, face: &Face) -> Option<Distances> {
+        let Face { beam, welds, .. } = face;
         let signed = |length: u32| i64::from(length);
-        let gauge = signed(joint.gauge);
-        let column_m = 5 * (gauge - signed(joint.column_web)) - 8 * signed(joint.column_root);
-        let plate_m = 5 * (gauge - signed(joint.beam_web)) - 8 * signed(joint.web_weld);
-        let column_e = 5 * (signed(joint.column_width) - gauge);
-        let plate_e = 5 * (signed(joint.plate_width) - gauge);
+        let gauge = signed(face.layout.gauge);
+        let column_m = 5 * (gauge - signed(column.web)) - 8 * signed(column.radius);
+        let plate_m = 5 * (gauge - signed(beam.web)) - 8 * signed(welds.web);
+        let column_e = 5 * (signed(column.width) - gauge);
+        let plate_e = 5 * (signed(face.plate.width) - gauge);
         let above_flange =
-            2 * signed(joint.levers[0]) - 2 * signed(joint.beam_depth) + signed(joint.beam_flange);
-        let extension_m = 5 * above_flange - 8 * signed(joint.flange_weld);
+            2 * signed(face.levers[0]) - 2 * signed(beam.depth) + signed(beam.flange);
+        let extension_m = 5 * above_flange - 8 * signed(welds.flange);
         let narrow = column_m < 500 || plate_m < 500 || column_e < 1000 || plate_e < 1000;
-        if narrow || (joint.is_extended() && extension_m < 500) {
+        if narrow || (face.is_extended() && extension_m < 500) {
             return None;
         }
         Some(Distances {
@@ -103,18 +105,41 @@ impl Side {
     }
 }
 
-/// Limit of a web in tension: lengths in tenths of a millimetre.
-#[inline]
-fn web_tension(gauge: u32, spread: u64, web: u32, strength: u64) -> u64 {
-    (173 * u64::from(gauge) + 100 * spread) * u64::from(web) * strength / 10000
+/// A web in tension.
+struct Web {
+    /// 173g, g in tenths of a millimetre
+    width: u64,
+    /// t×y, t in tenths of a millimetre
+    resistance: u64,
+}
+
+impl Web {
+    /// `gauge` and `thickness` in tenths of a millimetre.
+    fn new(gauge: u32, thickness: u32, strength: u64) -> Web {
+        Web {
+            width: 173 * u64::from(gauge),
+            resistance: u64::from(thickness) * strength,
+        }
+    }
+
+    #[inline]
+    fn limit(&self, spread: u64) -> u64 {
+        (self.width + 100 * spread) * self.resistance / 10000
+    }
 }
 
 /// The limit of the extension row alone on the plate.
-fn extension_limit(joint: &Joint, strengths: &Strengths, distances: &Distances) -> u64 {
+fn extension_limit(
+    bolt: &BoltStrengths,
+    face: &Face,
+    steel: &SteelStrengths,
+    distances: &Distances,
+) -> u64 {
     let m = distances.extension_m;
     let e = distances.plate_e;
-    let gauge = u64::from(joint.gauge);
-    let edge = 10 * u64::from(joint.edge);
+    let plate = &face.plate;
+    let gauge = u64::from(face.layout.gauge);
+    let edge = 10 * u64::from(face.layout.edge);
     let half_circle = 6283 * m / 2000;
     let half_other = 2 * m + 5 * edge / 8;
     let length = (6283 * m / 1000)
@@ -123,72 +148,90 @@ fn extension_limit(joint: &Joint, strengths: &Strengths, distances: &Distances) 
         .min(4 * m + 5 * edge / 4)
         .min(half_other + e)
         .min(half_other + 5 * gauge)
-        .min(5 * u64::from(joint.plate_width));
-    let stub = Stub::new(
-        joint.plate_thickness,
-        strengths.plate,
-        m,
-        edge,
-        strengths.pair_tension,
-    );
+        .min(5 * u64::from(plate.width));
+    let stub = Stub::new(plate.thickness, steel.plate, m, edge, bolt.pair_tension);
     stub.limit(length, 1)
 }
 
-/// The limits of groups 1–1, 1–2, .. 1–n, 2–2 and so on; the rest is 0.
-pub fn group_limits(joint: &Joint, strengths: &Strengths, distances: &Distances) -> [u64; GROUPS] {
-    let rows = joint.row_count();
-    let pair = strengths.pair_tension;
-    let least_e = distances.column_e.min(distances.plate_e);
-    let column_stub = Stub::new(
-        joint.column_flange,
-        strengths.column,
-        distances.column_m,
-        least_e,
-        pair,
-    );
-    let column = Side::new(column_stub, distances.column_m, distances.column_e);
-    let plate_stub = Stub::new(
-        joint.plate_thickness,
-        strengths.plate,
-        distances.plate_m,
-        least_e,
-        pair,
-    );
-    let plate = Side::new(plate_stub, distances.plate_m, distances.plate_e);
-    let under_flange = usize::from(joint.is_extended());
-    let beside_flange = u64::from(joint.alpha) * distances.plate_m / 100;
+/// What the limits of a face's groups take.
+struct Parts {
+    column: Side,
+    plate: Side,
+    /// in the place of the plate's other pattern, for a group that begins at the first row below the beam flange
+    beside_flange: u64,
+    /// of the extension row alone; 0 if flush
+    extension: u64,
+    column_web: Web,
+    beam_web: Web,
+    /// the first row below the beam flange
+    under_flange: usize,
+}
 
+impl Parts {
+    fn of(
+        column: &Column,
+        bolt: &BoltStrengths,
+        face: &Face,
+        steel: &SteelStrengths,
+        distances: &Distances,
+    ) -> Parts {
+        let Distances {
+            column_m, plate_m, ..
+        } = *distances;
+        let pair = bolt.pair_tension;
+        let gauge = face.layout.gauge;
+        let least_e = distances.column_e.min(distances.plate_e);
+        let column_stub = Stub::new(column.flange, steel.column, column_m, least_e, pair);
+        let plate_stub = Stub::new(face.plate.thickness, steel.plate, plate_m, least_e, pair);
+        Parts {
+            column: Side::new(column_stub, column_m, distances.column_e),
+            plate: Side::new(plate_stub, plate_m, distances.plate_e),
+            beside_flange: u64::from(face.layout.alpha) * plate_m / 100,
+            extension: if face.is_extended() {
+                extension_limit(bolt, face, steel, distances)
+            } else {
+                0
+            },
+            column_web: Web::new(gauge, column.web, steel.column),
+            beam_web: Web::new(gauge, face.beam.web, steel.beam),
+            under_flange: usize::from(face.is_extended()),
+        }
+    }
+
+    /// The limit of `rows` rows from `first` on.
+    #[inline]
+    fn limit(&self, first: usize, rows: u64, spread: u64) -> u64 {
+        let column = self
+            .column
+            .limit(self.column.other, spread, rows)
+            .min(self.column_web.limit(spread));
+        match first.cmp(&self.under_flange) {
+            Ordering::Less if rows == 1 => column.min(self.extension),
+            Ordering::Less => column,
+            Ordering::Equal => column.min(self.plate.limit(self.beside_flange, spread, rows)),
+            Ordering::Greater => column
+                .min(self.plate.limit(self.plate.other, spread, rows))
+                .min(self.beam_web.limit(spread)),
+        }
+    }
+}
+
+/// The limits of groups 1–1, 1–2, .. 1–n, 2–2 and so on; the rest is 0.
+pub fn group_limits(
+    column: &Column,
+    bolt: &BoltStrengths,
+    face: &Face,
+    steel: &SteelStrengths,
+    distances: &Distances,
+) -> [u64; GROUPS] {
+    let parts = Parts::of(column, bolt, face, steel, distances);
+    let rows = face.row_count();
     let mut limits = [0; GROUPS];
     let mut group = 0;
     for first in 0..rows {
         for last in first..rows {
-            let spread = u64::from(joint.levers[first] - joint.levers[last]);
-            let count = (last - first + 1) as u64;
-            let mut limit = column.limit(column.other, spread, count).min(web_tension(
-                joint.gauge,
-                spread,
-                joint.column_web,
-                strengths.column,
-            ));
-            if first >= under_flange {
-                let other = if first == under_flange {
-                    beside_flange
-                } else {
-                    plate.other
-                };
-                limit = limit.min(plate.limit(other, spread, count));
-            } else if last == first {
-                limit = limit.min(extension_limit(joint, strengths, distances));
-            }
-            if first > under_flange {
-                limit = limit.min(web_tension(
-                    joint.gauge,
-                    spread,
-                    joint.beam_web,
-                    strengths.beam,
-                ));
-            }
-            limits[group] = limit;
+            let spread = u64::from(face.levers[first] - face.levers[last]);
+            limits[group] = parts.limit(first, (last - first + 1) as u64, spread);
             group += 1;
         }
     }
@@ -210,6 +253,6 @@ mod tests {
 
     #[test]
     fn column_web_of_checked_joint_e() {
-        assert_eq!(web_tension(1000, 0, 130, 265), 595_985);
+        assert_eq!(Web::new(1000, 130, 265).limit(0), 595_985);
     }
 }

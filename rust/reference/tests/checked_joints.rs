@@ -69,7 +69,7 @@ fn joint_h() {
     let (joint, rest) = read(&with_field_2(&[0xac, 0x02]))
         .map(|(joint, rest)| (joint, rest.len()))
         .unwrap();
-    assert_eq!((joint.extended, rest), (300, 0));
+    assert_eq!((joint.face.extended, rest), (300, 0));
     assert_eq!(
         read(&with_field_2(&[0xac, 0x82, 0x00])),
         Err(ReadRefusal::NumberForm)
@@ -78,14 +78,14 @@ fn joint_h() {
 
 #[test]
 fn joint_i_is_worked() {
-    let outcome = work(&joint_i()).unwrap();
-    assert_eq!(outcome.forces, [219_345, 0, 0, 0, 0, 0, 0, 0]);
+    let result = work(&joint_i()).unwrap();
+    assert_eq!(result.forces, [219_345, 0, 0, 0, 0, 0, 0, 0]);
     assert_eq!(
-        (outcome.sum, outcome.newton_metres, outcome.cap),
+        (result.sum, result.newton_metres, result.cap),
         (219_345, 52642, 407_706)
     );
     assert_eq!(
-        (outcome.check, outcome.governing_force),
+        (result.check, result.governing_force),
         (Check::Buckling, 407_706)
     );
 }
@@ -99,20 +99,13 @@ fn joint_i_is_printed() {
 
 #[test]
 fn joint_i_at_its_governing_force() {
-    let outcome = work(&Joint {
-        axial: 407_706,
-        ..joint_i()
-    })
-    .unwrap();
+    let mut joint = joint_i();
+    joint.face.loads.axial = 407_706;
+    let result = work(&joint).unwrap();
     assert_eq!(
-        (outcome.forces[0], outcome.cap, outcome.governing_force),
+        (result.forces[0], result.cap, result.governing_force),
         (0, 0, 407_706)
     );
-    assert_eq!(
-        work(&Joint {
-            axial: 407_707,
-            ..joint_i()
-        }),
-        Err(WorkRefusal::Compression)
-    );
+    joint.face.loads.axial = 407_707;
+    assert_eq!(work(&joint), Err(WorkRefusal::Compression));
 }

@@ -1,6 +1,6 @@
 //! The capacity tables printed in P207: each cell within its tolerance, but for those listed here.
 
-use reference::{work, Joint, Outcome};
+use reference::{work, FaceResult, Joint};
 
 const TABLES: &str = include_str!("../../data/printed-tables.csv");
 
@@ -87,13 +87,13 @@ fn cell(line: &str) -> Cell<'_> {
 }
 
 /// The quantity of a worked joint, in newtons.
-fn computed(cell: &Cell, outcome: &Outcome) -> u64 {
+fn computed(cell: &Cell, result: &FaceResult) -> u64 {
     let quantity = cell.quantity.strip_suffix(" (kN)").unwrap_or(cell.quantity);
     if let Some(row) = quantity.strip_prefix("force of row ") {
-        return outcome.forces[row.parse::<usize>().unwrap() - 1];
+        return result.forces[row.parse::<usize>().unwrap() - 1];
     }
     if quantity == "least force of rows 4 to 6" {
-        return *outcome.forces[3..6].iter().min().unwrap();
+        return *result.forces[3..6].iter().min().unwrap();
     }
     assert!(
         quantity.starts_with("governing compression, cap plus N"),
@@ -103,9 +103,9 @@ fn computed(cell: &Cell, outcome: &Outcome) -> u64 {
         .quantity
         .strip_prefix("governing compression, cap plus N (kN) by ")
     {
-        assert_eq!(outcome.check.letter(), letter.as_bytes()[0], "{}", cell.id);
+        assert_eq!(result.check.letter(), letter.as_bytes()[0], "{}", cell.id);
     }
-    (outcome.cap as i64 + i64::from(cell.joint.axial)) as u64
+    (result.cap as i64 + i64::from(cell.joint.face.loads.axial)) as u64
 }
 
 #[test]
@@ -114,8 +114,8 @@ fn printed_figures_within_their_tolerance() {
     assert_eq!(cells.len(), 538);
     let mut found = Vec::new();
     for cell in &cells {
-        let outcome = work(&cell.joint).unwrap();
-        let force = computed(cell, &outcome);
+        let result = work(&cell.joint).unwrap();
+        let force = computed(cell, &result);
         if force.abs_diff(cell.printed) > cell.tolerance {
             println!(
                 "{} line {}: {} printed {}, computed {force}",

@@ -1,8 +1,8 @@
 //! Every refusal, at both ends of its condition.
 
 use reference::{
-    allocate, read, rest, sheet, work, write, AllocateRefusal, Joint, ReadRefusal, WorkRefusal,
-    WriteRefusal, LONGEST_FILE,
+    allocate, read, rest, sheet, work, write, AllocateRefusal, Face, Joint, ReadRefusal,
+    WorkRefusal, WriteRefusal, LONGEST_FILE,
 };
 
 const JOINT_I: [u32; 30] = [
@@ -20,14 +20,26 @@ fn joint() -> Joint {
     Joint::from_fields(&fields())
 }
 
-fn extended_joint() -> Joint {
-    Joint {
-        rows: 2,
-        extended: 1,
-        edge: 500,
-        levers: [3500, 2400, 0, 0, 0, 0, 0, 0],
-        ..joint()
-    }
+fn with(change: impl FnOnce(&mut Joint)) -> Joint {
+    let mut joint = joint();
+    change(&mut joint);
+    joint
+}
+
+fn levers(first: u32, second: u32) -> [u32; 8] {
+    [first, second, 0, 0, 0, 0, 0, 0]
+}
+
+/// Joint I with a row above the flange.
+fn extended(change: impl FnOnce(&mut Face)) -> Joint {
+    with(|joint| {
+        let face = &mut joint.face;
+        face.rows = 2;
+        face.extended = 1;
+        face.layout.edge = 500;
+        face.levers = levers(3500, 2400);
+        change(face);
+    })
 }
 
 fn with_field(number: usize, value: u32) -> Joint {
@@ -71,7 +83,7 @@ fn read_2_the_form() {
     }
     let file = file_of(&joint());
     let greatest = [&file[..1], &[0xff, 0xff, 0xff, 0xff, 0x0f], &file[2..]].concat();
-    assert_eq!(read(&greatest).unwrap().0.extended, u32::MAX);
+    assert_eq!(read(&greatest).unwrap().0.face.extended, u32::MAX);
 }
 
 #[test]
@@ -103,14 +115,8 @@ fn write_refuses_in_order_and_leaves_the_buffer() {
         assert_eq!(buffer, vec![7; length]);
         refusal
     };
-    assert_eq!(
-        refused(Joint { rows: 0, ..joint() }, 200),
-        WriteRefusal::RowCount
-    );
-    assert_eq!(
-        refused(Joint { rows: 9, ..joint() }, 0),
-        WriteRefusal::RowCount
-    );
+    assert_eq!(refused(with_field(1, 0), 200), WriteRefusal::RowCount);
+    assert_eq!(refused(with_field(1, 9), 0), WriteRefusal::RowCount);
     assert_eq!(refused(with_field(37, 1), 0), WriteRefusal::SpareLever);
     let length = file_of(&joint()).len();
     assert_eq!(refused(joint(), length - 1), WriteRefusal::ShortBuffer);
@@ -135,10 +141,15 @@ fn allocate_refuses_in_order() {
     );
 }
 
+/// The field that refusal 10 tells; 0 where another is told, or none.
+fn field_of(joint: &Joint) -> u32 {
+    work(joint).err().map_or(0, WorkRefusal::field)
+}
+
 /// Each field at both ends of its range, and one past each.
 #[test]
-fn work_10_each_field() {
-    let ends: [(usize, u32, u32); 20] = [
+fn work_10_ranges() {
+    let ends: [(usize, u32, u32); 22] = [
         (8, 1000, 15000),
         (9, 500, 6000),
         (10, 40, 500),
@@ -158,18 +169,22 @@ fn work_10_each_field() {
         (24, 30, 250),
         (25, 0, 15000),
         (26, 0, 8),
+        (28, 0, 10_000_000),
+        (29, 0, 10_000_000),
         (30, 1, 20000),
     ];
-    let field_of = |joint: &Joint| work(joint).err().map_or(0, WorkRefusal::field);
     for (number, low, high) in ends {
-        assert_eq!(field_of(&with_field(number, low)), 0, "field {number}");
-        assert_eq!(field_of(&with_field(number, high)), 0, "field {number}");
-        assert_eq!(
-            field_of(&with_field(number, low.wrapping_sub(1))),
-            number as u32
-        );
-        assert_eq!(field_of(&with_field(number, high + 1)), number as u32);
+        for value in [low, high] {
+            assert_eq!(field_of(&with_field(number, value)), 0, "field {number}");
+        }
+        for value in [low.wrapping_sub(1), high + 1] {
+            assert_eq!(field_of(&with_field(number, value)), number as u32);
+        }
     }
+}
+
+#[test]
+fn work_10_other_fields() {
     for (number, value) in [
         (1, 0),
         (1, 9),
@@ -182,10 +197,6 @@ fn work_10_each_field() {
     ] {
         assert_eq!(field_of(&with_field(number, value)), number as u32);
     }
-    for number in [28, 29] {
-        assert_eq!(field_of(&with_field(number, 10_000_000)), 0);
-        assert_eq!(field_of(&with_field(number, 10_000_001)), number as u32);
-    }
     for (axial, field) in [
         (10_000_000, 0),
         (10_000_001, 27),
@@ -193,181 +204,113 @@ fn work_10_each_field() {
         (-10_000_001, 27),
         (i32::MIN, 27),
     ] {
-        assert_eq!(field_of(&Joint { axial, ..joint() }), field);
+        assert_eq!(field_of(&with_field(27, axial as u32)), field);
     }
     for number in 31..=37 {
         assert_eq!(field_of(&with_field(number, 1)), number as u32);
     }
     for (edge, field) in [(149, 21), (150, 0), (2000, 0), (2001, 21), (0, 21)] {
-        assert_eq!(
-            field_of(&Joint {
-                edge,
-                ..extended_joint()
-            }),
-            field
-        );
+        assert_eq!(field_of(&extended(|face| face.layout.edge = edge)), field);
     }
     assert_eq!(work(&with_field(3, 47)).unwrap_err().number(), 10);
 }
 
 #[test]
 fn work_11_lever_order() {
-    let levers = |second| [2400, second, 0, 0, 0, 0, 0, 0];
-    assert!(work(&Joint {
-        rows: 2,
-        levers: levers(2399),
-        ..joint()
-    })
-    .is_ok());
-    assert_eq!(
-        work(&Joint {
-            rows: 2,
-            levers: levers(2400),
-            ..joint()
-        }),
-        Err(WorkRefusal::LeverOrder)
-    );
+    let second = |lever| {
+        with(|joint| {
+            joint.face.rows = 2;
+            joint.face.levers = levers(2400, lever);
+        })
+    };
+    assert!(work(&second(2399)).is_ok());
+    assert_eq!(work(&second(2400)), Err(WorkRefusal::LeverOrder));
 }
 
 #[test]
 fn work_12_row_place() {
     // 2Db − 3Tb = 5788, 2Db − Tb = 6024
-    let flush = |lever| Joint {
-        levers: [lever, 0, 0, 0, 0, 0, 0, 0],
-        ..joint()
-    };
-    assert!(work(&flush(2893)).is_ok());
-    assert_eq!(work(&flush(2894)), Err(WorkRefusal::RowPlace));
-    let extended = |first, second| Joint {
-        levers: [first, second, 0, 0, 0, 0, 0, 0],
-        ..extended_joint()
-    };
-    assert!(work(&extended(3500, 2893)).is_ok());
-    assert_eq!(work(&extended(3012, 2400)), Err(WorkRefusal::RowPlace));
-    assert_eq!(work(&extended(3013, 2400)), Err(WorkRefusal::TooTight));
-    assert_eq!(work(&extended(3500, 2894)), Err(WorkRefusal::RowPlace));
+    assert!(work(&with_field(30, 2893)).is_ok());
+    assert_eq!(work(&with_field(30, 2894)), Err(WorkRefusal::RowPlace));
+    let worked = |first, second| work(&extended(|face| face.levers = levers(first, second)));
+    assert!(worked(3500, 2893).is_ok());
+    assert_eq!(worked(3012, 2400), Err(WorkRefusal::RowPlace));
+    assert_eq!(worked(3013, 2400), Err(WorkRefusal::TooTight));
+    assert_eq!(worked(3500, 2894), Err(WorkRefusal::RowPlace));
 }
 
 #[test]
 fn work_13_too_tight() {
     // column m = 5(900 − tc) − 8×127, plate m = 5(900 − tb) − 480, e = 5(B − 900), mx = 10h − 30760
-    let joint = Joint {
-        axial: -10_000_000,
-        ..joint()
-    };
     let tight = |joint: Joint| work(&joint) == Err(WorkRefusal::TooTight);
-    assert!(!tight(Joint {
-        gauge: 400,
-        plate_width: 2000,
-        ..joint.clone()
-    }));
-    assert!(tight(Joint {
-        gauge: 399,
-        plate_width: 2000,
-        ..joint.clone()
-    }));
-    assert!(!tight(Joint {
-        gauge: 596,
-        beam_web: 400,
-        column_root: 0,
-        ..joint.clone()
-    }));
-    assert!(tight(Joint {
-        gauge: 595,
-        beam_web: 400,
-        column_root: 0,
-        ..joint.clone()
-    }));
-    assert!(!tight(Joint {
-        column_width: 1100,
-        ..joint.clone()
-    }));
-    assert!(tight(Joint {
-        column_width: 1099,
-        ..joint.clone()
-    }));
-    assert!(!tight(Joint {
-        plate_width: 1100,
-        ..joint.clone()
-    }));
-    assert!(tight(Joint {
-        plate_width: 1099,
-        ..joint
-    }));
-    let extended = |first| Joint {
-        levers: [first, 2400, 0, 0, 0, 0, 0, 0],
-        ..extended_joint()
+    let column_m = |gauge| with(|joint| joint.face.layout.gauge = gauge);
+    assert!(!tight(column_m(400)));
+    assert!(tight(column_m(399)));
+    let plate_m = |gauge| {
+        with(|joint| {
+            joint.face.layout.gauge = gauge;
+            joint.face.beam.web = 400;
+            joint.column.radius = 0;
+        })
     };
-    assert!(tight(extended(3125)));
-    assert!(!tight(extended(3126)));
+    assert!(!tight(plate_m(596)));
+    assert!(tight(plate_m(595)));
+    let column_e = |width| with(|joint| joint.column.width = width);
+    assert!(!tight(column_e(1100)));
+    assert!(tight(column_e(1099)));
+    let plate_e = |width| with(|joint| joint.face.plate.width = width);
+    assert!(!tight(plate_e(1100)));
+    assert!(tight(plate_e(1099)));
+    let mx = |lever| extended(|face| face.levers[0] = lever);
+    assert!(tight(mx(3125)));
+    assert!(!tight(mx(3126)));
 }
 
 #[test]
 fn work_14_too_thick() {
-    let thick = |column_flange, plate_thickness| Joint {
-        column_flange,
-        plate_thickness,
-        ..joint()
+    let worked = |flange, thickness| {
+        work(&with(|joint| {
+            joint.column.flange = flange;
+            joint.face.plate.thickness = thickness;
+        }))
     };
-    assert!(work(&thick(132, 500)).is_ok());
-    assert!(work(&thick(500, 60)).is_ok());
-    assert_eq!(work(&thick(500, 500)), Err(WorkRefusal::TooThick));
+    assert!(worked(132, 500).is_ok());
+    assert!(worked(500, 60).is_ok());
+    assert_eq!(worked(500, 500), Err(WorkRefusal::TooThick));
 }
 
+/// Every trouble at once, put right one after the other.
 #[test]
 fn work_refuses_in_order() {
-    let wrong = Joint {
-        rows: 2,
-        levers: [2400, 2400, 0, 0, 0, 0, 0, 0],
-        gauge: 300,
-        ..joint()
-    };
-    assert_eq!(work(&wrong), Err(WorkRefusal::LeverOrder));
-    assert_eq!(
-        work(&Joint {
-            alpha: 0,
-            ..wrong.clone()
-        }),
-        Err(WorkRefusal::Field(22))
-    );
-    let wrong = Joint {
-        levers: [9000, 0, 0, 0, 0, 0, 0, 0],
-        gauge: 300,
-        ..joint()
-    };
-    assert_eq!(work(&wrong), Err(WorkRefusal::RowPlace));
-    let wrong = Joint {
-        gauge: 300,
-        column_flange: 500,
-        plate_thickness: 500,
-        axial: 10_000_000,
-        ..joint()
-    };
-    assert_eq!(work(&wrong), Err(WorkRefusal::TooTight));
-    assert_eq!(
-        work(&Joint {
-            gauge: 900,
-            ..wrong.clone()
-        }),
-        Err(WorkRefusal::TooThick)
-    );
-    let wrong = Joint {
-        gauge: 900,
-        plate_thickness: 200,
-        column_flange: 132,
-        ..wrong
-    };
-    assert_eq!(work(&wrong), Err(WorkRefusal::Compression));
+    let mut joint = with(|joint| {
+        joint.column.flange = 500;
+        joint.face.rows = 2;
+        joint.face.plate.thickness = 500;
+        joint.face.layout.gauge = 300;
+        joint.face.layout.alpha = 0;
+        joint.face.loads.axial = 10_000_000;
+        joint.face.levers = levers(9000, 9000);
+    });
+    assert_eq!(work(&joint), Err(WorkRefusal::Field(22)));
+    joint.face.layout.alpha = 600;
+    assert_eq!(work(&joint), Err(WorkRefusal::LeverOrder));
+    joint.face.levers = levers(9000, 2400);
+    assert_eq!(work(&joint), Err(WorkRefusal::RowPlace));
+    joint.face.levers = levers(2500, 2400);
+    assert_eq!(work(&joint), Err(WorkRefusal::TooTight));
+    joint.face.layout.gauge = 900;
+    assert_eq!(work(&joint), Err(WorkRefusal::TooThick));
+    joint.column.flange = 132;
+    assert_eq!(work(&joint), Err(WorkRefusal::Compression));
+    joint.face.loads.axial = 0;
+    assert!(work(&joint).is_ok());
 }
 
 #[test]
 fn sheet_goes_on_and_ends() {
     let good = file_of(&joint());
     let out_of_range = file_of(&with_field(22, 0));
-    let compressed = file_of(&Joint {
-        axial: 407_707,
-        ..joint()
-    });
+    let compressed = file_of(&with_field(27, 407_707));
     let worked = "1 219345 219345 52642 407706 K P P P P";
     assert_eq!(
         lines(&[&good[..], &out_of_range, &compressed, &good, &[9], &good].concat()),

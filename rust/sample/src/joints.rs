@@ -1,7 +1,7 @@
 //! Random joints.
 
 use crate::random::Random;
-use reference::{work, Joint, FIELDS};
+use reference::{work, Beam, Bolts, Column, Face, Joint, Layout, Loads, Plate, Welds, FIELDS};
 
 /// The ends of fields 8 to 20 and 22 to 26, which are plain ranges.
 const RANGES: [(usize, u32, u32); 18] = [
@@ -27,44 +27,89 @@ const RANGES: [(usize, u32, u32); 18] = [
 
 /// A joint in range whose distances mostly leave room, with `rows` rows.
 pub fn sensible_joint(random: &mut Random, rows: u32) -> Joint {
-    let grade = |random: &mut Random| random.pick(&[275, 355]);
     let mut joint = Joint {
-        rows,
-        extended: random.between(0, 1),
-        bolt_class: random.pick(&[46, 88, 88, 109, 109]),
-        bolt_diameter: random.pick(&[12, 16, 20, 24, 30]),
-        column_grade: grade(random),
-        beam_grade: grade(random),
-        plate_grade: grade(random),
-        column_depth: random.between(1000, 9000),
-        column_width: random.between(1200, 6000),
-        column_flange: random.between(40, 500),
-        column_web: random.between(30, 250),
-        column_root: random.between(0, 250),
-        column_clear: random.between(500, 9000),
-        beam_depth: random.between(1000, 15000),
-        beam_width: random.between(500, 4500),
-        beam_flange: random.between(40, 500),
-        beam_web: random.between(30, 300),
-        plate_width: random.between(1200, 6000),
-        plate_thickness: random.between(60, 500),
-        alpha: random.between(400, 800),
-        flange_weld: random.between(30, 250),
-        web_weld: random.between(30, 250),
-        web_weld_length: random.between(0, 15000),
-        shear_rows: random.between(0, 8),
-        ..Joint::default()
+        column: column(random),
+        bolts: Bolts {
+            class: random.pick(&[46, 88, 88, 109, 109]),
+            diameter: random.pick(&[12, 16, 20, 24, 30]),
+        },
+        face: face(random, rows),
     };
     thin_one_part(random, &mut joint);
-    joint.gauge = gauge(random, &joint);
-    if joint.extended == 1 {
-        joint.edge = random.between(150, 2000);
-    }
-    joint.axial = axial(random);
-    joint.shear = load(random, 2_000_000);
-    joint.moment = load(random, 1_500_000);
-    place_rows(random, &mut joint);
+    joint.face.layout.gauge = gauge(random, &joint);
+    place_rows(random, &mut joint.face);
     joint
+}
+
+fn grade(random: &mut Random) -> u32 {
+    random.pick(&[275, 355])
+}
+
+fn column(random: &mut Random) -> Column {
+    Column {
+        grade: grade(random),
+        depth: random.between(1000, 9000),
+        width: random.between(1200, 6000),
+        flange: random.between(40, 500),
+        web: random.between(30, 250),
+        radius: random.between(0, 250),
+        clear: random.between(500, 9000),
+    }
+}
+
+/// A face whose gauge and levers are still 0.
+fn face(random: &mut Random, rows: u32) -> Face {
+    let extended = random.between(0, 1);
+    Face {
+        rows,
+        extended,
+        beam: Beam {
+            grade: grade(random),
+            depth: random.between(1000, 15000),
+            width: random.between(500, 4500),
+            flange: random.between(40, 500),
+            web: random.between(30, 300),
+        },
+        plate: Plate {
+            grade: grade(random),
+            width: random.between(1200, 6000),
+            thickness: random.between(60, 500),
+        },
+        layout: layout(random, extended),
+        welds: welds(random),
+        shear_rows: random.between(0, 8),
+        loads: loads(random),
+        levers: [0; 8],
+    }
+}
+
+/// Without its gauge.
+fn layout(random: &mut Random, extended: u32) -> Layout {
+    Layout {
+        gauge: 0,
+        edge: if extended == 1 {
+            random.between(150, 2000)
+        } else {
+            0
+        },
+        alpha: random.between(400, 800),
+    }
+}
+
+fn welds(random: &mut Random) -> Welds {
+    Welds {
+        flange: random.between(30, 250),
+        web: random.between(30, 250),
+        length: random.between(0, 15000),
+    }
+}
+
+fn loads(random: &mut Random) -> Loads {
+    Loads {
+        axial: axial(random),
+        shear: load(random, 2_000_000),
+        moment: load(random, 1_500_000),
+    }
 }
 
 /// A sensible joint that Work does not refuse.
@@ -85,8 +130,8 @@ pub fn any_joint(random: &mut Random) -> Joint {
     match random.below(24) {
         0 | 1 => shift_field(random, &mut joint, false),
         2 => shift_field(random, &mut joint, true),
-        3 => swap_levers(random, &mut joint),
-        4 => move_row(random, &mut joint),
+        3 => swap_levers(random, &mut joint.face),
+        4 => move_row(random, &mut joint.face),
         5 => tighten(random, &mut joint),
         6 => thicken(random, &mut joint),
         7 => compress(random, &mut joint),
@@ -101,20 +146,21 @@ fn thin_one_part(random: &mut Random, joint: &mut Joint) {
     if random.one_in(12) {
         return;
     }
-    let thinnest = joint.bolt_diameter * 7;
+    let thinnest = joint.bolts.diameter * 7;
     if random.one_in(2) {
-        joint.column_flange = random.between(40, thinnest);
+        joint.column.flange = random.between(40, thinnest);
     } else {
-        joint.plate_thickness = random.between(60, thinnest.max(60));
+        joint.face.plate.thickness = random.between(60, thinnest.max(60));
     }
 }
 
 /// Mostly one that leaves m and e room on both sides.
 fn gauge(random: &mut Random, joint: &Joint) -> u32 {
-    let column = joint.column_web + (8 * joint.column_root + 500).div_ceil(5);
-    let plate = joint.beam_web + (8 * joint.web_weld + 500).div_ceil(5);
-    let least = column.max(plate).max(300);
-    let most = (joint.column_width.min(joint.plate_width) - 200).min(3000);
+    let Joint { column, face, .. } = joint;
+    let by_column = column.web + (8 * column.radius + 500).div_ceil(5);
+    let by_plate = face.beam.web + (8 * face.welds.web + 500).div_ceil(5);
+    let least = by_column.max(by_plate).max(300);
+    let most = (column.width.min(face.plate.width) - 200).min(3000);
     random.between(least, most).min(3000)
 }
 
@@ -142,18 +188,18 @@ fn load(random: &mut Random, most: u32) -> u32 {
 }
 
 /// Levers that fall, the first above the flange if extended, the others below it.
-fn place_rows(random: &mut Random, joint: &mut Joint) {
-    let rows = joint.rows as usize;
+fn place_rows(random: &mut Random, face: &mut Face) {
+    let rows = face.row_count();
+    let beam = &face.beam;
     let mut levers = Vec::new();
-    if joint.extended == 1 {
+    if face.is_extended() {
         // mx is 500 or more from here on
-        let least = (2 * joint.beam_depth - joint.beam_flange
-            + (500 + 8 * joint.flange_weld).div_ceil(5))
-        .div_ceil(2);
+        let clear = (500 + 8 * face.welds.flange).div_ceil(5);
+        let least = (2 * beam.depth - beam.flange + clear).div_ceil(2);
         let most = (least + 2500).min(20000);
         levers.push(random.between(least.min(20000), most));
     }
-    let below = (2 * joint.beam_depth - 3 * joint.beam_flange - 1) / 2;
+    let below = (2 * beam.depth - 3 * beam.flange - 1) / 2;
     let mut lever = random.between(below - below / 4, below);
     while levers.len() < rows {
         levers.push(lever.max(1));
@@ -161,14 +207,14 @@ fn place_rows(random: &mut Random, joint: &mut Joint) {
         let step = (lever / (left + 2)).max(1);
         lever = lever.saturating_sub(random.between(1, step));
     }
-    joint.levers[..rows].copy_from_slice(&levers);
+    face.levers[..rows].copy_from_slice(&levers);
 }
 
 /// One field at an end of its range, or one past it, or anywhere.
 fn shift_field(random: &mut Random, joint: &mut Joint, anywhere: bool) {
     let mut fields = joint.to_fields();
     let place = random.below(FIELDS as u64) as usize;
-    let (low, high) = ends(joint, place + 1);
+    let (low, high) = ends(&joint.face, place + 1);
     fields[place] = match random.below(if anywhere { 8 } else { 5 }) {
         0 => low,
         1 => high,
@@ -182,7 +228,7 @@ fn shift_field(random: &mut Random, joint: &mut Joint, anywhere: bool) {
 }
 
 /// The least and greatest value of a field, by its number.
-fn ends(joint: &Joint, number: usize) -> (u32, u32) {
+fn ends(face: &Face, number: usize) -> (u32, u32) {
     if let Some(&(_, low, high)) = RANGES.iter().find(|range| range.0 == number) {
         return (low, high);
     }
@@ -192,68 +238,66 @@ fn ends(joint: &Joint, number: usize) -> (u32, u32) {
         3 => (46, 109),
         4 => (12, 30),
         5..=7 => (275, 355),
-        21 if joint.extended == 1 => (150, 2000),
+        21 if face.is_extended() => (150, 2000),
         21 => (0, 0),
         27 => (-10_000_000_i32 as u32, 10_000_000),
         28 | 29 => (0, 10_000_000),
-        _ if number - 29 <= joint.rows as usize => (1, 20000),
+        _ if number - 29 <= face.row_count() => (1, 20000),
         _ => (0, 0),
     }
 }
 
 /// A lever equal to, or above, the one before it.
-fn swap_levers(random: &mut Random, joint: &mut Joint) {
-    if joint.rows < 2 {
+fn swap_levers(random: &mut Random, face: &mut Face) {
+    if face.rows < 2 {
         return;
     }
-    let row = random.between(1, joint.rows - 1) as usize;
-    let above = joint.levers[row - 1];
-    joint.levers[row] = above + random.between(0, 1);
+    let row = random.between(1, face.rows - 1) as usize;
+    let above = face.levers[row - 1];
+    face.levers[row] = above + random.between(0, 1);
 }
 
 /// Row 1, or the one under the flange, at the flange's edge or one past it.
-fn move_row(random: &mut Random, joint: &mut Joint) {
-    let top = (2 * joint.beam_depth - joint.beam_flange) / 2;
-    let foot = (2 * joint.beam_depth - 3 * joint.beam_flange) / 2;
-    if joint.extended == 1 && (joint.rows == 1 || random.one_in(2)) {
-        joint.levers[0] = top + random.between(0, 2);
+fn move_row(random: &mut Random, face: &mut Face) {
+    let beam = &face.beam;
+    let top = (2 * beam.depth - beam.flange) / 2;
+    let foot = (2 * beam.depth - 3 * beam.flange) / 2;
+    if face.is_extended() && (face.rows == 1 || random.one_in(2)) {
+        face.levers[0] = top + random.between(0, 2);
     } else {
-        joint.levers[joint.extended as usize] = foot + random.between(0, 2) - 1;
+        face.levers[face.extended as usize] = foot + random.between(0, 2) - 1;
     }
 }
 
 /// A distance at its least, or a little to either side.
 fn tighten(random: &mut Random, joint: &mut Joint) {
+    let Joint { column, face, .. } = joint;
     let near = random.between(0, 4);
+    let gauge = |web: u32, corner: u32| (web + (8 * corner + 500) / 5 + near).clamp(302, 3000) - 2;
+    let width = |gauge: u32| (gauge + 198 + near).clamp(500, 6000);
     match random.below(5) {
-        0 => {
-            joint.gauge =
-                (joint.column_web + (8 * joint.column_root + 500) / 5 + near).clamp(302, 3000) - 2
-        }
-        1 => {
-            joint.gauge =
-                (joint.beam_web + (8 * joint.web_weld + 500) / 5 + near).clamp(302, 3000) - 2
-        }
-        2 => joint.column_width = (joint.gauge + 198 + near).clamp(500, 6000),
-        3 => joint.plate_width = (joint.gauge + 198 + near).clamp(500, 6000),
+        0 => face.layout.gauge = gauge(column.web, column.radius),
+        1 => face.layout.gauge = gauge(face.beam.web, face.welds.web),
+        2 => column.width = width(face.layout.gauge),
+        3 => face.plate.width = width(face.layout.gauge),
         _ => {
-            joint.extended = 1;
-            joint.edge = joint.edge.max(150);
-            let least =
-                (2 * joint.beam_depth - joint.beam_flange + (500 + 8 * joint.flange_weld) / 5) / 2;
-            joint.levers[0] = least + near - 2;
+            face.extended = 1;
+            face.layout.edge = face.layout.edge.max(150);
+            let clear = (500 + 8 * face.welds.flange) / 5;
+            let least = (2 * face.beam.depth - face.beam.flange + clear) / 2;
+            face.levers[0] = least + near - 2;
         }
     }
 }
 
 /// Flange and plate both about as thick as the bolts allow.
 fn thicken(random: &mut Random, joint: &mut Joint) {
-    let ultimate = match joint.bolt_class {
+    let ultimate = match joint.bolts.class {
         46 => 400,
         88 => 800,
         _ => 1000,
     };
-    let square = 10000 * u64::from(joint.bolt_diameter).pow(2) * ultimate;
+    let square = 10000 * u64::from(joint.bolts.diameter).pow(2) * ultimate;
     let thickness = |random: &mut Random, grade: u32, least: u32| {
         let strength = grade - random.pick(&[0, 10, 20]);
         let most = (square / (361 * u64::from(strength))).isqrt() as u32;
@@ -261,16 +305,17 @@ fn thicken(random: &mut Random, joint: &mut Joint) {
             .saturating_sub(1)
             .clamp(least, 500)
     };
-    joint.column_flange = thickness(random, joint.column_grade, 40);
-    joint.plate_thickness = thickness(random, joint.plate_grade, 60);
+    joint.column.flange = thickness(random, joint.column.grade, 40);
+    let plate = &mut joint.face.plate;
+    plate.thickness = thickness(random, plate.grade, 60);
 }
 
 /// N about at the governing force.
 fn compress(random: &mut Random, joint: &mut Joint) {
-    joint.axial = -10_000_000;
-    if let Ok(outcome) = work(joint) {
-        let near = outcome.governing_force as i64 + i64::from(random.between(0, 4)) - 2;
-        joint.axial = near.min(10_000_000) as i32;
+    joint.face.loads.axial = -10_000_000;
+    if let Ok(result) = work(joint) {
+        let near = result.governing_force as i64 + i64::from(random.between(0, 4)) - 2;
+        joint.face.loads.axial = near.min(10_000_000) as i32;
     }
 }
 
