@@ -1,0 +1,178 @@
+//! The kinds of vectors, and reading what they ask.
+
+use crate::items::Items;
+use reference::Joint;
+
+/// The longest buffer that Write is lent.
+const LONGEST_BUFFER: u64 = 256;
+/// The most limits that Allocate is handed.
+const MOST_LIMITS: usize = 64;
+
+/// What a vector asks.
+#[derive(Debug, PartialEq)]
+pub enum Call {
+    Work(Joint),
+    Allocate { count: u64, limits: Vec<u64> },
+    Read(Vec<u8>),
+    Write { joint: Joint, size: usize },
+    Cell(Cell),
+    Shear { printed: Printed, joint: Joint },
+}
+
+/// A figure of P207 that Work gives, or one that is known not to agree.
+#[derive(Debug, PartialEq)]
+pub struct Cell {
+    pub printed: Printed,
+    /// of the item among refusal, field and result, from 1
+    pub place: usize,
+    pub joint: Joint,
+    pub is_exception: bool,
+}
+
+/// A printed figure, which stands for several bolts or pairs alike.
+#[derive(Clone, Copy, Debug, PartialEq)]
+pub struct Printed {
+    pub count: u64,
+    pub newtons: u64,
+    pub tolerance: u64,
+}
+
+impl Call {
+    /// Reads a vector up to the sign ` =`.
+    pub fn of(text: &str) -> Result<Call, String> {
+        let (word, mut items) = Items::of(text);
+        let call = match word {
+            "work" => Call::Work(items.joint()?),
+            "allocate" => allocate(&mut items)?,
+            "read" => Call::Read(items.bytes()?),
+            "write" => Call::Write {
+                joint: items.joint()?,
+                size: items.number(0..=LONGEST_BUFFER)? as usize,
+            },
+            "cell" => Call::Cell(cell(&mut items, false)?),
+            "exception" => Call::Cell(cell(&mut items, true)?),
+            "shear" => Call::Shear {
+                printed: printed(&mut items)?,
+                joint: items.joint()?,
+            },
+            _ => return Err(format!("`{word}` is no kind of vector")),
+        };
+        items.end()?;
+        Ok(call)
+    }
+}
+
+fn allocate(items: &mut Items) -> Result<Call, String> {
+    let count = items.number(0..=u64::MAX)?;
+    let limits = items.numbers()?;
+    if limits.len() > MOST_LIMITS {
+        return Err(format!("more than {MOST_LIMITS} limits"));
+    }
+    Ok(Call::Allocate { count, limits })
+}
+
+fn cell(items: &mut Items, is_exception: bool) -> Result<Cell, String> {
+    Ok(Cell {
+        printed: printed(items)?,
+        place: items.number(1..=19)? as usize,
+        joint: items.joint()?,
+        is_exception,
+    })
+}
+
+/// The line of P207's text is for readers.
+fn printed(items: &mut Items) -> Result<Printed, String> {
+    let _line = items.number(0..=u64::MAX)?;
+    Ok(Printed {
+        count: items.number(0..=u64::MAX)?,
+        newtons: items.number(0..=u64::MAX)?,
+        tolerance: items.number(0..=u64::MAX)?,
+    })
+}
+
+#[cfg(test)]
+mod tests {
+    use super::*;
+    use crate::JOINT_I;
+
+    #[test]
+    fn good_lines() {
+        let Ok(Call::Work(joint)) = Call::of(&format!("work {JOINT_I}")) else {
+            panic!("work");
+        };
+        let written = Call::Write { joint, size: 256 };
+        assert_eq!(Call::of(&format!("write {JOINT_I} 256")), Ok(written));
+        let none = Call::Allocate {
+            count: u64::MAX,
+            limits: vec![],
+        };
+        assert_eq!(Call::of("allocate 18446744073709551615"), Ok(none));
+        assert_eq!(Call::of("read -"), Ok(Call::Read(vec![])));
+        let printed = Printed {
+            count: 2,
+            newtons: 3,
+            tolerance: 4,
+        };
+        let cell = |is_exception| {
+            Ok(Call::Cell(Cell {
+                printed,
+                place: 19,
+                joint,
+                is_exception,
+            }))
+        };
+        assert_eq!(Call::of(&format!("cell 1 2 3 4 19 {JOINT_I}")), cell(false));
+        assert_eq!(
+            Call::of(&format!("exception 1 2 3 4 19 {JOINT_I}")),
+            cell(true)
+        );
+        let shear = Call::Shear { printed, joint };
+        assert_eq!(Call::of(&format!("shear 1 2 3 4 {JOINT_I}")), Ok(shear));
+    }
+
+    #[test]
+    fn the_axial_force_alone_has_a_sign() {
+        let with = |place: usize, item: &str| {
+            let mut items: Vec<&str> = JOINT_I.split(' ').collect();
+            items[place - 1] = item;
+            Call::of(&format!("work {}", items.join(" ")))
+        };
+        assert!(with(27, "-2147483648").is_ok());
+        assert!(with(27, "2147483648").is_err());
+        assert!(with(28, "4294967295").is_ok());
+        assert_eq!(
+            with(28, "-1").unwrap_err(),
+            "item 28, `-1`: not a number from 0 to 4294967295"
+        );
+    }
+
+    #[test]
+    fn bad_lines() {
+        let why = |text: &str| Call::of(text).unwrap_err();
+        assert_eq!(why(""), "`` is no kind of vector");
+        assert_eq!(why("Work 1"), "`Work` is no kind of vector");
+        assert_eq!(why("work"), "item 1 is missing");
+        assert_eq!(
+            why(&format!("work {JOINT_I} 0")),
+            "`0` stands after the last item"
+        );
+        assert_eq!(
+            why("allocate 1  5"),
+            format!("item 2, ``: not a number from 0 to {}", u64::MAX)
+        );
+        assert_eq!(
+            why(&format!("allocate 8{}", " 1".repeat(65))),
+            "more than 64 limits"
+        );
+        assert_eq!(
+            why(&format!("write {JOINT_I} 257")),
+            "item 38, `257`: not a number from 0 to 256"
+        );
+        assert_eq!(
+            why(&format!("cell 1 1 1 1 20 {JOINT_I}")),
+            "item 5, `20`: not a number from 1 to 19"
+        );
+        assert_eq!(why("read 0 0"), "item 1, `0`: not bytes");
+        assert_eq!(why("read 00 00"), "`00` stands after the last item");
+    }
+}
