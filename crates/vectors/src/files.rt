@@ -9,7 +9,6 @@ use crate::reader::fill;
 use crate::reader::fill_bytes;
 use crate::reader::is_end;
 use crate::reader::put_words;
-use joint::Joint;
 use jointfile::Written;
 use words::joints::joint_of;
 use words::joints::put_joint;
@@ -44,9 +43,9 @@ fn compare_reading(file: &[u8], should: &[u64]) -> Comparison {
     compare_bytes(numbers, jointfile::rest(file), &file[next..])
 }
 
-pub fn run_read(line: &[u8], at: usize) -> Comparison {
+pub fn run_read(line: &[u8], place: Place) -> Comparison {
     let mut bytes = [0u8; 512];
-    let Bytes::Read { count, next } = fill_bytes(line, at, &mut bytes) else {
+    let Bytes::Read { count, next } = fill_bytes(line, place, &mut bytes) else {
         return Comparison::Unreadable;
     };
     let mut should = [0u64; 39];
@@ -69,13 +68,18 @@ fn written_numbers(written: Written) -> [u64; 2] {
 }
 
 // Writes the joint to a buffer.
-fn compare_writing(joint: Joint, buffer: &mut [u8], should: [u64; 2], left: &[u8]) -> Comparison {
-    let are = written_numbers(jointfile::write(joint, buffer));
+fn compare_writing(
+    joint: [u32; 37],
+    buffer: &mut [u8],
+    should: [u64; 2],
+    left: &[u8],
+) -> Comparison {
+    let are = written_numbers(jointfile::write(joint_of(&joint), buffer));
     compare_bytes(compare(&are, &should), buffer, left)
 }
 
 // The same to one of so many bytes, each 165 before the call, in hexadecimal a5.
-fn compare_buffer(joint: Joint, size: u64, should: [u64; 2], left: &[u8]) -> Comparison {
+fn compare_buffer(joint: [u32; 37], size: u64, should: [u64; 2], left: &[u8]) -> Comparison {
     let length = size as usize;
     if MOST_BYTES < length {
         return Comparison::Unreadable;
@@ -88,9 +92,7 @@ pub fn run_write(line: &[u8], place: Place) -> Comparison {
     let mut given = [0u64; 38];
     let mut should = [0u64; 2];
     let equals = after_equals(line, fill(line, place, &mut given));
-    let Place::At(answer) = fill(line, equals, &mut should) else {
-        return Comparison::Unreadable;
-    };
+    let answer = fill(line, equals, &mut should);
     let mut left = [0u8; 512];
     let Bytes::Read { count, next } = fill_bytes(line, answer, &mut left) else {
         return Comparison::Unreadable;
@@ -102,5 +104,5 @@ pub fn run_write(line: &[u8], place: Place) -> Comparison {
     if MOST_BYTES < count {
         return Comparison::Unreadable;
     }
-    compare_buffer(joint_of(&joint), given[37], should, &left[..count])
+    compare_buffer(joint, given[37], should, &left[..count])
 }

@@ -23,8 +23,8 @@ fn allocated_numbers(count: u64, limits: &[u64]) -> [u64; 9] {
     numbers
 }
 
-pub fn run(line: &[u8], at: usize) -> Comparison {
-    let Number::Value { value, next } = number_at(line, at) else {
+pub fn run(line: &[u8], place: Place) -> Comparison {
+    let Number::Value { value, next } = number_at(line, place) else {
         return Comparison::Unreadable;
     };
     let mut limits = [0u64; 64];

@@ -35,43 +35,21 @@ fn input_space() -> [u8; 1048577]
     [0; 1048577]
 }
 
-// Runs the call that a line names.
-fn run_line(line: &[u8]) -> Comparison {
-    if let Place::At(at) = after_word(line, b"work") {
-        return joints::run(line, Place::At(at));
+// Runs the call that a line names; `first` is its first byte. Work and write begin alike.
+fn run_line(first: u8, line: &[u8]) -> Comparison {
+    match first {
+        b'a' => limits::run(line, after_word(line, b"allocate")),
+        b'c' => printed::run_cell(line, after_word(line, b"cell"), true),
+        b'e' => printed::run_cell(line, after_word(line, b"exception"), false),
+        b'r' => files::run_read(line, after_word(line, b"read")),
+        b's' => printed::run_shear(line, after_word(line, b"shear")),
+        _ => {
+            if let Place::At(at) = after_word(line, b"write") {
+                return files::run_write(line, Place::At(at));
+            }
+            joints::run(line, after_word(line, b"work"))
+        }
     }
-    if let Place::At(at) = after_word(line, b"allocate") {
-        return limits::run(line, at);
-    }
-    if let Place::At(at) = after_word(line, b"read") {
-        return files::run_read(line, at);
-    }
-    if let Place::At(at) = after_word(line, b"write") {
-        return files::run_write(line, Place::At(at));
-    }
-    run_printed(line)
-}
-
-// The same for a line with a printed figure.
-fn run_printed(line: &[u8]) -> Comparison {
-    if let Place::At(at) = after_word(line, b"cell") {
-        return printed::run_cell(line, Place::At(at), true);
-    }
-    if let Place::At(at) = after_word(line, b"exception") {
-        return printed::run_cell(line, Place::At(at), false);
-    }
-    if let Place::At(at) = after_word(line, b"shear") {
-        return printed::run_shear(line, Place::At(at));
-    }
-    Comparison::Unreadable
-}
-
-// A heading without its `# `.
-fn heading_of(line: &[u8]) -> &[u8] {
-    if line.len() < 2 {
-        return line;
-    }
-    &line[2..]
 }
 
 // A line by its first byte: nothing, a heading, a note, or else a vector.
@@ -82,9 +60,9 @@ fn with_line(progress: Progress, line: &[u8]) -> Progress {
     }
     let first = line[0];
     match first {
-        b'#' => with_heading(here, heading_of(line)),
+        b'#' => with_heading(here, line),
         b'/' => here,
-        _ => with_comparison(here, run_line(line)),
+        _ => with_comparison(here, run_line(first, line)),
     }
 }
 
@@ -102,22 +80,27 @@ fn run_all(text: &[u8]) -> Progress {
     progress
 }
 
-fn tell_failure(text: &[u8]) {
-    io::write_all(STDERR_FILENO, text);
-}
-
 fn main() {
     let mut text = input_space();
     let size = io::read_full(STDIN_FILENO, &mut text);
     if !was_read_whole(size, INPUT_SPACE) {
-        tell_failure(b"vectors: the input could not be read to its end; nothing is run\n");
+        io::write_all(
+            STDERR_FILENO,
+            b"vectors: the input could not be read to its end; nothing is run\n",
+        );
         return;
     }
     if INPUT_SPACE <= size {
-        tell_failure(b"vectors: the input is longer than 1048576 bytes; nothing is run\n");
+        io::write_all(
+            STDERR_FILENO,
+            b"vectors: the input is longer than 1048576 bytes; nothing is run\n",
+        );
         return;
     }
     if !finish(run_all(&text[..size])) {
-        tell_failure(b"vectors: the output could not be written whole\n");
+        io::write_all(
+            STDERR_FILENO,
+            b"vectors: the output could not be written whole\n",
+        );
     }
 }

@@ -81,8 +81,8 @@ fn tell_comparison(line: u64, found: Comparison) -> bool {
 
 // ---- what the lines of the input come to
 
-// The counts of the heading before it, if any vector has run, and the heading.
-pub fn with_heading(progress: Progress, name: &[u8]) -> Progress {
+// The counts of the heading before it, if any vector has run, and the heading's line.
+pub fn with_heading(progress: Progress, line: &[u8]) -> Progress {
     let mut told = true;
     if 0 < progress.all_ran {
         told = tell_counts(b"  ", progress.ran, progress.agreed);
@@ -93,7 +93,7 @@ pub fn with_heading(progress: Progress, name: &[u8]) -> Progress {
         all_ran: progress.all_ran,
         all_agreed: progress.all_agreed,
         line: progress.line,
-        written: progress.written & told & text(name) & text(b"\n"),
+        written: progress.written & told & text(line) & text(b"\n"),
     }
 }
 

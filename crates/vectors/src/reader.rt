@@ -9,8 +9,11 @@ pub enum Place {
     Bad,
 }
 
-// The place after a byte, where it stands at `at`.
-fn after_byte(line: &[u8], at: usize, byte: u8) -> Place {
+// The place after a byte, where it stands at a place.
+fn after_byte(line: &[u8], place: Place, byte: u8) -> Place {
+    let Place::At(at) = place else {
+        return Place::Bad;
+    };
     if at < line.len() {
         if line[at] == byte {
             return Place::At(at + 1);
@@ -33,16 +36,10 @@ pub fn after_word(line: &[u8], word: &[u8]) -> Place {
 
 // The place after the ` =` that parts what a call is handed from what it must answer.
 pub fn after_equals(line: &[u8], place: Place) -> Place {
-    let Place::At(at) = place else {
-        return Place::Bad;
-    };
-    let Place::At(next) = after_byte(line, at, b' ') else {
-        return Place::Bad;
-    };
-    after_byte(line, next, b'=')
+    after_byte(line, after_byte(line, place, b' '), b'=')
 }
 
-// Whether a line has been read to its end, or to the space before a note.
+// Whether a line has been read to its end, or to the ` //` of a note.
 pub fn is_end(line: &[u8], place: Place) -> bool {
     let Place::At(at) = place else {
         return false;
@@ -50,10 +47,8 @@ pub fn is_end(line: &[u8], place: Place) -> bool {
     if at == line.len() {
         return true;
     }
-    let Place::At(next) = after_byte(line, at, b' ') else {
-        return false;
-    };
-    let Place::At(_) = after_byte(line, next, b'/') else {
+    let first = after_byte(line, after_byte(line, Place::At(at), b' '), b'/');
+    let Place::At(_) = after_byte(line, first, b'/') else {
         return false;
     };
     true
@@ -90,8 +85,11 @@ fn with_digit(value: u64, byte: u8) -> Longer {
     Longer::Value(10 * value + digit)
 }
 
-// The number whose digits begin at `from`.
-fn digits_at(line: &[u8], from: usize) -> Number {
+// The number whose digits begin at a place.
+fn digits_at(line: &[u8], place: Place) -> Number {
+    let Place::At(from) = place else {
+        return Number::Missing;
+    };
     let mut value = 0;
     let mut at = from;
     while at < line.len() {
@@ -107,15 +105,13 @@ fn digits_at(line: &[u8], from: usize) -> Number {
     Number::Value { value, next: at }
 }
 
-// The number after the space at `at`. One below 0, down to -2147483648, is read as its two's complement in 32 bits.
-pub fn number_at(line: &[u8], at: usize) -> Number {
-    let Place::At(first) = after_byte(line, at, b' ') else {
-        return Number::Missing;
-    };
+// The number after the space at a place. One below 0, down to -2147483648, is read as its two's complement in 32 bits.
+pub fn number_at(line: &[u8], place: Place) -> Number {
+    let first = after_byte(line, place, b' ');
     let Place::At(second) = after_byte(line, first, b'-') else {
         return digits_at(line, first);
     };
-    let Number::Value { value, next } = digits_at(line, second) else {
+    let Number::Value { value, next } = digits_at(line, Place::At(second)) else {
         return Number::Missing;
     };
     if 2147483648 < value {
@@ -138,7 +134,7 @@ pub fn fill_some(line: &[u8], from: usize, values: &mut [u64]) -> Numbers {
     let mut at = from;
     let mut count = 0;
     while count < values.len() {
-        let Number::Value { value, next } = number_at(line, at) else {
+        let Number::Value { value, next } = number_at(line, Place::At(at)) else {
             break;
         };
         values[count] = value;
@@ -209,17 +205,6 @@ fn hexadecimal(byte: u8) -> u8 {
     16
 }
 
-// The byte of two digits, or 256 where one of them is none.
-fn byte_of(high: u8, low: u8) -> u16 {
-    if 15 < high {
-        return 256;
-    }
-    if 15 < low {
-        return 256;
-    }
-    16 * (high as u16) + (low as u16)
-}
-
 // Fills the front of `bytes` with those whose digits begin at `from`, as many as there are.
 fn fill_pairs(line: &[u8], from: usize, bytes: &mut [u8]) -> Bytes {
     let mut at = from;
@@ -232,23 +217,27 @@ fn fill_pairs(line: &[u8], from: usize, bytes: &mut [u8]) -> Bytes {
         if line.len() <= second {
             break;
         }
-        let byte = byte_of(hexadecimal(line[at]), hexadecimal(line[second]));
-        if 255 < byte {
+        let high = hexadecimal(line[at]);
+        let low = hexadecimal(line[second]);
+        if 15 < high {
             break;
         }
-        bytes[count] = byte as u8;
+        if 15 < low {
+            break;
+        }
+        bytes[count] = 16 * high + low;
         at = second + 1;
         count += 1;
     }
     Bytes::Read { count, next: at }
 }
 
-// Fills the front of `bytes` with those after the space at `at`; `-` stands for none.
-pub fn fill_bytes(line: &[u8], at: usize, bytes: &mut [u8]) -> Bytes {
-    let Place::At(first) = after_byte(line, at, b' ') else {
+// Fills the front of `bytes` with those after the space at a place; `-` stands for none.
+pub fn fill_bytes(line: &[u8], place: Place, bytes: &mut [u8]) -> Bytes {
+    let Place::At(first) = after_byte(line, place, b' ') else {
         return Bytes::Bad;
     };
-    let Place::At(next) = after_byte(line, first, b'-') else {
+    let Place::At(next) = after_byte(line, Place::At(first), b'-') else {
         return fill_pairs(line, first, bytes);
     };
     Bytes::Read { count: 0, next }

@@ -21,15 +21,6 @@ slice-aggregate-fill-2 c = search needs
 fill-requires-2 : tie.Need-fill-requires-2
 fill-requires-2 c κs = search needs
 
-enum-known-answer : tie.Need-enum-known-answer
-enum-known-answer c = search needs
-
-enum-told : tie.Need-enum-told
-enum-told c = search needs
-
-returns : tie.Need-returns
-returns c = search needs
-
 slice-aggregate-fill-bytes : tie.Need-slice-aggregate-fill-bytes
 slice-aggregate-fill-bytes c = search needs
 
@@ -39,11 +30,11 @@ fill-bytes-requires c κs = search needs
 enum-known-count : tie.Need-enum-known-count
 enum-known-count c = search needs
 
-enum-told-2 : tie.Need-enum-told-2
-enum-told-2 c = search needs
+enum-told : tie.Need-enum-told
+enum-told c = search needs
 
-returns-2 : tie.Need-returns-2
-returns-2 c = search needs
+returns : tie.Need-returns
+returns c = search needs
 
 is-end-requires : tie.Need-is-end-requires
 is-end-requires c κs = search needs
@@ -57,17 +48,11 @@ slice-aggregate-put-words-2 c = search needs
 put-words-requires : tie.Need-put-words-requires
 put-words-requires c κs = search needs
 
+returns-2 : tie.Need-returns-2
+returns-2 c = search needs
+
 returns-3 : tie.Need-returns-3
 returns-3 c = search needs
-
-returns-4 : tie.Need-returns-4
-returns-4 c = search needs
-
-slice-aggregate-joint-of : tie.Need-slice-aggregate-joint-of
-slice-aggregate-joint-of c = search needs
-
-joint-of-requires : tie.Need-joint-of-requires
-joint-of-requires c κs = search needs
 
 array-read-compare-buffer : tie.Need-array-read-compare-buffer
 array-read-compare-buffer c = search needs
@@ -81,8 +66,8 @@ slice-aggregate-compare-buffer c = sym (length-take-le _ _ (omega arith))
 compare-buffer-requires : tie.Need-compare-buffer-requires
 compare-buffer-requires c κs = search needs
 
-returns-5 : tie.Need-returns-5
-returns-5 c = search needs
+returns-4 : tie.Need-returns-4
+returns-4 c = search needs
 
 pub run-write-spec : {M : Type 1} → statement M
 run-write-spec =
@@ -93,24 +78,19 @@ run-write-spec =
     after-equals-requires
     slice-aggregate-fill-2
     fill-requires-2
-    enum-known-answer
-    enum-told
-    returns
     slice-aggregate-fill-bytes
     fill-bytes-requires
     enum-known-count
-    enum-told-2
-    returns-2
+    enum-told
+    returns
     is-end-requires
     slice-aggregate-put-words
     slice-aggregate-put-words-2
     put-words-requires
+    returns-2
     returns-3
-    returns-4
-    slice-aggregate-joint-of
-    joint-of-requires
     array-read-compare-buffer
     array-share-prefix-left
     slice-aggregate-compare-buffer
     compare-buffer-requires
-    returns-5)
+    returns-4)

@@ -11,6 +11,15 @@ Inv-loop line from value₀ at₀ value at = Unit {0}
 abbrev μ-loop : tie.MeasureT-loop
 μ-loop line from value₀ at₀ value at = length line - at
 
+enum-known-place : tie.Need-enum-known-place Inv-loop μ-loop
+enum-known-place c = search needs
+
+enum-told : tie.Need-enum-told Inv-loop μ-loop
+enum-told c = search needs
+
+returns : tie.Need-returns Inv-loop μ-loop
+returns c = search needs
+
 loop-holds : tie.Need-loop-holds Inv-loop μ-loop
 loop-holds c = search needs
 
@@ -32,11 +41,11 @@ loop-less c = search needs
 loop-again : tie.Need-loop-again Inv-loop μ-loop
 loop-again c = search needs
 
-returns : tie.Need-returns Inv-loop μ-loop
-returns c = search needs
-
 returns-2 : tie.Need-returns-2 Inv-loop μ-loop
 returns-2 c = search needs
+
+returns-3 : tie.Need-returns-3 Inv-loop μ-loop
+returns-3 c = search needs
 
 pub digits-at-spec : {M : Type 1} → statement M
 digits-at-spec =
@@ -44,6 +53,9 @@ digits-at-spec =
     (tie.spec
     Inv-loop
     μ-loop
+    enum-known-place
+    enum-told
+    returns
     loop-holds
     shared-slice-read-with-digit
     with-digit-requires
@@ -51,5 +63,5 @@ digits-at-spec =
     add-at
     loop-less
     loop-again
-    returns
-    returns-2)
+    returns-2
+    returns-3)

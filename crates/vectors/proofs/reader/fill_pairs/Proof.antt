@@ -30,11 +30,11 @@ shared-slice-read-hexadecimal-2 c = search needs
 hexadecimal-requires-2 : tie.Need-hexadecimal-requires-2 Inv-loop μ-loop
 hexadecimal-requires-2 c κs = search needs
 
-byte-of-requires : tie.Need-byte-of-requires Inv-loop μ-loop
-byte-of-requires c κs = search needs
+mul-bytes : tie.Need-mul-bytes Inv-loop μ-loop
+mul-bytes c = search needs
 
-cast-bytes : tie.Need-cast-bytes Inv-loop μ-loop
-cast-bytes c = search needs
+add-bytes : tie.Need-add-bytes Inv-loop μ-loop
+add-bytes c = search needs
 
 slice-write-bytes : tie.Need-slice-write-bytes Inv-loop μ-loop
 slice-write-bytes c = search needs
@@ -75,6 +75,12 @@ same-length-4 c = search needs
 returns-4 : tie.Need-returns-4 Inv-loop μ-loop
 returns-4 c = search needs
 
+same-length-5 : tie.Need-same-length-5 Inv-loop μ-loop
+same-length-5 c = search needs
+
+returns-5 : tie.Need-returns-5 Inv-loop μ-loop
+returns-5 c = search needs
+
 pub fill-pairs-spec : {M : Type 1} → statement M
 fill-pairs-spec =
     tie.close
@@ -87,8 +93,8 @@ fill-pairs-spec =
     hexadecimal-requires
     shared-slice-read-hexadecimal-2
     hexadecimal-requires-2
-    byte-of-requires
-    cast-bytes
+    mul-bytes
+    add-bytes
     slice-write-bytes
     add-at
     add-count
@@ -101,4 +107,6 @@ fill-pairs-spec =
     same-length-3
     returns-3
     same-length-4
-    returns-4)
+    returns-4
+    same-length-5
+    returns-5)
