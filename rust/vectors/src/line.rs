@@ -19,7 +19,7 @@ fn parts(line: &str) -> Result<(&str, &str), String> {
     if !(after.is_empty() || after.starts_with(' ')) {
         return Err("something stands against the `=`".to_string());
     }
-    let note = after.find(" // ").map_or("", |start| &after[start..]);
+    let note = after.find(" //").map_or("", |start| &after[start..]);
     Ok((asked, note))
 }
 
@@ -41,7 +41,7 @@ mod tests {
             "allocate 1 5 =",
             "allocate 1 5 = ",
             "allocate 1 5 = 7",
-            "allocate 1 5 = anything = at all //",
+            "allocate 1 5 = anything = at all /",
             right,
         ] {
             assert_eq!(renewed(line).unwrap(), right);
@@ -50,7 +50,7 @@ mod tests {
 
     #[test]
     fn notes_are_kept() {
-        for note in [" // a note", " //  = // two", " // "] {
+        for note in [" // a note", " //  = // two", " // ", " //"] {
             let right = format!("allocate 1 5 = 0 5 0 0 0 0 0 0 0{note}");
             assert_eq!(renewed(&format!("allocate 1 5 ={note}")).unwrap(), right);
             assert_eq!(
