@@ -19,7 +19,7 @@ use Rattle.sharing.specs.Sharing.{shared}
 use Rattle.sharing.specs.Best.{Best}
 use Rattle.sharing.proofs.Theorems.{best}
 use Rattle.allocation.specs.declared.Allocation.{Allocation}
-use Rattle.allocation.specs.Allocation.{noneAbove, refusedBy, refusals, allocated}
+use Rattle.allocation.specs.Allocation.{noneAbove, refusedAllocation, allocateRefusals, allocated}
 use Rattle.allocation.specs.Steps.{Shareable}
 use Rattle.allocation.proofs.Bound.{both, each-within}
 
@@ -31,27 +31,27 @@ pub product-le : (n : ℕ) → n ≤ 8 → n * (n + 1) ≤ 72
 product-le n h = mul-le-mul {n₂ = 8} {m₂ = 9} h (omega arith)
 
 module _ (n : ℕ) (limits : List ℕ) where
-  pub refused-by-3 : within rowCounts n ≡ false → allocated n limits ≡ refusedBy 3
-  unfolding allocated refusals
-  refused-by-3 bad = fails _ refusedBy 3 _ _ bad
+  pub refused-by-3 : within rowCounts n ≡ false → allocated n limits ≡ refusedAllocation 3
+  unfolding allocated allocateRefusals
+  refused-by-3 bad = fails _ refusedAllocation 3 _ _ bad
 
   module _ (rows : within rowCounts n ≡ true) where
-    pub refused-by-7 : length limits < groupCount n → allocated n limits ≡ refusedBy 7
-    unfolding allocated refusals
-    refused-by-7 few = holds _ refusedBy 3 _ _ rows ∙ fails _ refusedBy 7 _ _ (lt-leb _ _ few)
+    pub refused-by-7 : length limits < groupCount n → allocated n limits ≡ refusedAllocation 7
+    unfolding allocated allocateRefusals
+    refused-by-7 few = holds _ refusedAllocation 3 _ _ rows ∙ fails _ refusedAllocation 7 _ _ (lt-leb _ _ few)
 
     module _ (enough : groupCount n ≤ length limits) where
-      pub refused-by-8 : noneAbove mostLimit (take (groupCount n) limits) ≡ false → allocated n limits ≡ refusedBy 8
-      unfolding allocated refusals
+      pub refused-by-8 : noneAbove mostLimit (take (groupCount n) limits) ≡ false → allocated n limits ≡ refusedAllocation 8
+      unfolding allocated allocateRefusals
       refused-by-8 bad =
-          holds _ refusedBy 3 _ _ rows ∙ holds _ refusedBy 7 _ _ (le-leb _ _ enough) ∙ fails _ refusedBy 8 _ _ bad
+          holds _ refusedAllocation 3 _ _ rows ∙ holds _ refusedAllocation 7 _ _ (le-leb _ _ enough) ∙ fails _ refusedAllocation 8 _ _ bad
 
       module _ (small : noneAbove mostLimit (take (groupCount n) limits) ≡ true) where
         pub taken : allocated n limits ≡ record { refusal = 0; forces = eightPlaces (shared (listed n limits) n) }
-        unfolding allocated refusals
+        unfolding allocated allocateRefusals
         taken =
-            holds _ refusedBy 3 _ _ rows ∙ holds _ refusedBy 7 _ _ (le-leb _ _ enough) ∙ holds _ refusedBy 8 _ _ small
-            ∙ none-left _ refusedBy
+            holds _ refusedAllocation 3 _ _ rows ∙ holds _ refusedAllocation 7 _ _ (le-leb _ _ enough) ∙ holds _ refusedAllocation 8 _ _ small
+            ∙ none-left _ refusedAllocation
 
         pub shareable : Shareable n limits
         shareable =
@@ -66,11 +66,11 @@ module _ (n : ℕ) (limits : List ℕ) where
   -- an answer that is no refusal has the best forces
   pub no-refusal-is-best : (answer : Allocation) → allocated n limits ≡ answer → answer .refusal ≡ 0
       → Best (listed n limits) n (take n (answer .forces))
-  unfolding allocated refusals positive eightPlaces
+  unfolding allocated allocateRefusals positive eightPlaces
   no-refusal-is-best answer e none =
-      let whole = numbered-holds _ refusedBy answer
+      let whole = numbered-holds _ refusedAllocation answer
       (λ number refused. let never : suc number ≡ 0 = ap (λ a. a .refusal) refused ∙ none in absurd (omega arith))
-      (refusals n limits) tt e in
+      (allocateRefusals n limits) tt e in
       let b = best (listed n limits) n in
       let list = shared (listed n limits) n in
       let own : take n (answer .forces) ≡ list =

@@ -19,14 +19,14 @@ noneAbove most [] = true
 noneAbove most (limit ∷ limits) = leb limit most && noneAbove most limits
 
 -- 'Those past n are 0, and in a refusal all are.'
-abbrev pub refusedBy : ℕ → Allocation
-refusedBy number = record { refusal = number; forces = replicate 8 0 }
+abbrev pub refusedAllocation : ℕ → Allocation
+refusedAllocation number = record { refusal = number; forces = replicate 8 0 }
 
 -- '3 as above; 7 fewer than n(n+1)÷2 limits; 8 one of those above 4000000000. Further limits aren't looked at': each number with the test
 -- that lets the limits pass.
-unfoldable pub refusals : ℕ → List ℕ → List Check
+unfoldable pub allocateRefusals : ℕ → List ℕ → List Check
 unfolding noneAbove
-refusals n limits =
+allocateRefusals n limits =
     (3, within rowCounts n)
     ∷ (7, leb (groupCount n) (length limits))
     ∷ (8, noneAbove mostLimit (take (groupCount n) limits))
@@ -34,6 +34,6 @@ refusals n limits =
 
 -- The first refusal whose test fails, and else the forces; 0 is no refusal.
 unfoldable pub allocated : ℕ → List ℕ → Allocation
-unfolding refusals
+unfolding allocateRefusals
 allocated n limits =
-    firstFailing (record { refusal = 0; forces = eightPlaces (shared (listed n limits) n) }) refusedBy (refusals n limits)
+    firstFailing (record { refusal = 0; forces = eightPlaces (shared (listed n limits) n) }) refusedAllocation (allocateRefusals n limits)

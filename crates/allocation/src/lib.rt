@@ -6,7 +6,7 @@ ghost use Rattle.joint.specs.Places.{eightPlaces};
 ghost use Rattle.sharing.specs.Groups.{listed};
 ghost use Rattle.sharing.specs.Sharing.{shared};
 ghost use Rattle.sharing.specs.Best.{Best};
-ghost use Rattle.allocation.specs.Allocation.{noneAbove, refusedBy, allocated};
+ghost use Rattle.allocation.specs.Allocation.{noneAbove, refusedAllocation, allocated};
 ghost use Rattle.allocation.specs.Steps.{Shareable, Countable, Counted};
 use arithmetic::least;
 
@@ -103,7 +103,7 @@ fn none_above(limits: &[u64], most: u64) -> bool
 }
 
 fn refused(number: u32) -> Allocation
-    ensures { λ r. ⌜ r ≡ refusedBy number ⌝ }
+    ensures { λ r. ⌜ r ≡ refusedAllocation number ⌝ }
 {
     Allocation {
         refusal: number,

@@ -13,7 +13,7 @@ use Rattle.jointfile.specs.File.{readOthers, readJoint}
 use Rattle.jointfile.specs.Write.{fileOf}
 use Rattle.sharing.specs.Groups.{groupsAbove, groupCount, listed, withCap}
 use Rattle.sharing.specs.Sharing.{leastUpTo, lowered, allowance, nextForce, forcesDownTo, shared, moment, newtonMetres}
-use Rattle.allocation.specs.Allocation.{noneAbove, refusals, allocated}
+use Rattle.allocation.specs.Allocation.{noneAbove, allocateRefusals, allocated}
 use Rattle.strength.specs.Steel.{steelStrength, steelBearing, weldStrength}
 use Rattle.strength.specs.Bolt.{boltArea, boltTension, boltShear, boltBearing, boltUltimate, pairTension, pairShear}
 use Rattle.strength.specs.Thickness.{thicknessLimit, tooThick, bothTooThick}
@@ -39,7 +39,7 @@ pub all-agree : map (λ (c : Checked). c .given) table ≡ map (λ (c : Checked)
 unfolding table firstFailing search-from leverChecks fixedChecks fieldChecks fieldCheck eightPlaces
     groups readGroups readNumbers storedAll jointOf axialOf storedAxial fieldsOf readOthers readJoint fileOf
     groupsAbove groupCount listed withCap leastUpTo lowered allowance nextForce forcesDownTo shared moment newtonMetres
-    noneAbove refusals allocated
+    noneAbove allocateRefusals allocated
     steelStrength steelBearing weldStrength boltArea boltTension boltShear boltBearing boltUltimate pairTension pairShear
     thicknessLimit tooThick bothTooThick bending webTension
     columnFlangeBending endPlateBending endPlateLimits columnWebTension beamWebLimits groupLimit

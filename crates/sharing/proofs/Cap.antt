@@ -25,14 +25,6 @@ module _ (limit : Table) (n cap : ℕ) where
   unfolding withCap
   withCap-whole k e = rw (eq-eqb (suc k) n (sym e)) (min-le-right _ _)
 
-  withCap-le : (i j : ℕ) → withCap limit n cap i j ≤ limit i j
-  unfolding withCap
-  withCap-le i j = go (eqb i 0 && eqb (suc j) n)
-    where
-      go : (t : Bool) → cond t (min (limit i j) cap) (limit i j) ≤ limit i j
-      go true = min-le-left _ _
-      go false = le-refl _
-
   le-withCap : (i j x : ℕ) → x ≤ limit i j → (i ≡ 0 → suc j ≡ n → x ≤ cap) → x ≤ withCap limit n cap i j
   unfolding withCap
   le-withCap i j x below capped = go (eqb i 0) (eqb (suc j) n) refl refl
@@ -41,6 +33,14 @@ module _ (limit : Table) (n cap : ℕ) where
       go true true es et = le-min below (capped (eqb-true _ _ es) (eqb-true _ _ et))
       go true false es et = below
       go false t es et = below
+
+  withCap-le : (i j : ℕ) → withCap limit n cap i j ≤ limit i j
+  unfolding withCap
+  withCap-le i j = go (eqb i 0 && eqb (suc j) n)
+    where
+      go : (t : Bool) → cond t (min (limit i j) cap) (limit i j) ≤ limit i j
+      go true = min-le-left _ _
+      go false = le-refl _
 
   module _ (forces : List ℕ) where
     within-cap : (m : ℕ) → n ≡ m → Competes (withCap limit n cap) n forces → total forces ≤ cap

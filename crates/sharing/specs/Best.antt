@@ -18,10 +18,10 @@ pub record Best (limit : Table) (n : ℕ) (forces : List ℕ) : Type 0 where
   pub competes : Competes limit n forces
   -- for whatever list competes, the sum from the top row down to any row is at most this list's
   pub sums : (other : List ℕ) → Competes limit n other → (k : ℕ) → total (take k other) ≤ total (take k forces)
-  -- its moment is at most this list's
+  -- that list's moment is at most this list's
   pub moments : (levers : List ℕ) → Falling levers n → (other : List ℕ) → Competes limit n other
       → moment levers other ≤ moment levers forces
-  -- it equals this list exactly when the moments are equal
+  -- that list is this one exactly when their moments are equal
   pub same : (levers : List ℕ) → Falling levers n → (other : List ℕ) → Competes limit n other
       → (other ≡ forces) ↔ (moment levers other ≡ moment levers forces)
   -- this list fails a test exactly when every list that competes fails it

@@ -41,8 +41,9 @@ unfoldable pub shared : Table → ℕ → List ℕ
 unfolding forcesDownTo
 shared limit n = forcesDownTo limit n n
 
--- 'A list competes when it has one force for each row, in whole newtons, none below zero; when for every group i to j its
--- forces on rows i to j add up to at most that group's limit, before any lowering.'
+-- Document 01's 'a list competes', for any table of limits: one force for each row, and for every group a sum of at most its limit,
+-- before any lowering. The cap is no separate clause here, since a table may have it among its limits (`withCap`); the paper's own words,
+-- with the cap, are Work's `CompetesFor`.
 pub record Competes (limit : Table) (n : ℕ) (forces : List ℕ) : Type 0 where
   pub rows : length forces ≡ n
   pub keeps : (i j : ℕ) → i ≤ j → j < n → groupSum forces i j ≤ limit i j

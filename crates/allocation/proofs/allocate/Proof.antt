@@ -30,7 +30,7 @@ few c = at-most-eight _ (rows c)
 
 enough : (c : tie.Else2) → groupCount (counted (c .before) .args .count) ≤ length (counted (c .before) .args .limits .now)
 unfolding groupCount
-enough c = c .if2 .left
+enough c = omega (arith, c .if2 .left)
 
 abbrev looked : tie.After-none-above → tie.Else2
 looked c = c .before .before
@@ -77,7 +77,7 @@ returns-2 c =
     (sym e, no-refusal-is-best _ _ _ e)
 
 slice-aggregate-none-above : tie.Need-slice-aggregate-none-above
-slice-aggregate-none-above c = sym (length-take-le _ _ (c .before .if2 .left))
+slice-aggregate-none-above c = sym (length-take-le _ _ (omega (arith, c .before .if2 .left)))
 
 none-above-requires : tie.Need-none-above-requires
 none-above-requires c κs = search needs

@@ -14,13 +14,27 @@ Inv-loop count limits forces₀ sums₀ above₀ first₀ row₀ forces sums abo
 abbrev μ-loop : tie.MeasureT-loop
 μ-loop count limits forces₀ sums₀ above₀ first₀ row₀ forces sums above first row = count - row
 
+-- ---- the places: the call's start, the head of a turn, its test, and its groups counted
+
+abbrev entered : tie.At-loop Inv-loop μ-loop → tie.Start Inv-loop μ-loop
+entered c = c .before .before
+
+abbrev head : tie.In-loop Inv-loop μ-loop → tie.At-loop Inv-loop μ-loop
+head c = c .before
+
+abbrev tested : tie.After-count-groups Inv-loop μ-loop → tie.In-loop Inv-loop μ-loop
+tested c = c .before .before
+
+-- ---- the needs
+
 loop-holds : tie.Need-loop-holds Inv-loop μ-loop
 loop-holds c = start _ _ (c .before .pre)
 
 count-groups-requires : tie.Need-count-groups-requires Inv-loop μ-loop
 count-groups-requires c κs =
-    let s = c .before .before .before .before in
-    let l = c .before .before .loop in
+    let at-loop = head (c .before) in
+    let s = entered at-loop in
+    let l = at-loop .loop in
     record {
       limits-shareable = s .pre;
       inside = c .before .loop-test .taken;
@@ -37,9 +51,10 @@ array-read-down c = omega arith
 
 sub-force : tie.Need-sub-force Inv-loop μ-loop
 sub-force c =
-    let s = c .before .before .before .before .before in
-    let l = c .before .before .before .loop in
-    omega (arith, down-grows _ _ (s .pre) _ _ _ _ _ (l .inv) (c .before .before .loop-test .taken) _ (c .count-groups .ensures))
+    let at-loop = head (tested c) in
+    let s = entered at-loop in
+    let l = at-loop .loop in
+    omega (arith, down-grows _ _ (s .pre) _ _ _ _ _ (l .inv) (tested c .loop-test .taken) _ (c .count-groups .ensures))
 
 mul-forces : tie.Need-mul-forces Inv-loop μ-loop
 mul-forces c = omega arith
@@ -52,9 +67,10 @@ sub-first c = omega arith
 
 add-first : tie.Need-add-first Inv-loop μ-loop
 add-first c =
-    let s = c .before .before .before .before .before in
-    let l = c .before .before .before .loop in
-    omega (arith, l .inv .place, groups-inside (s .args .count) (l .row) (c .before .before .loop-test .taken), s .pre .enough)
+    let at-loop = head (tested c) in
+    let s = entered at-loop in
+    let l = at-loop .loop in
+    omega (arith, l .inv .place, groups-inside (s .args .count) (l .row) (tested c .loop-test .taken), s .pre .enough)
 
 add-row : tie.Need-add-row Inv-loop μ-loop
 add-row c = omega arith
@@ -64,12 +80,13 @@ loop-less c = omega arith
 
 loop-again : tie.Need-loop-again Inv-loop μ-loop
 loop-again c =
-    let s = c .before .before .before .before .before in
-    let l = c .before .before .before .loop in
-    turn _ _ (s .pre) _ _ _ _ _ (l .inv) (c .before .before .loop-test .taken) _ (c .count-groups .ensures)
+    let at-loop = head (tested c) in
+    let s = entered at-loop in
+    let l = at-loop .loop in
+    turn _ _ (s .pre) _ _ _ _ _ (l .inv) (tested c .loop-test .taken) _ (c .count-groups .ensures)
 
 returns : tie.Need-returns Inv-loop μ-loop
-returns c = finish _ _ (c .before .before .before .pre) _ _ _ _ _ (c .before .loop .inv) (c .loop-test .left)
+returns c = finish _ _ (entered (c .before) .pre) _ _ _ _ _ (c .before .loop .inv) (c .loop-test .left)
 
 pub share-spec : {M : Type 1} → statement M
 share-spec =
