@@ -6,7 +6,7 @@ use mathlib.Core.List.{List, [], _∷_}
 use native.Mathlib.Omega.{arith}
 use lib.ListN.{length, getD}
 use Rattle.joint.specs.declared.Joint.{Joint}
-use Rattle.fields.specs.Fields.{jointOf, fieldsOf}
+use Rattle.fields.specs.Fields.{fieldCount, jointOf, fieldsOf}
 use Rattle.fields.proofs.Axial.{axial-stored, stored-axial}
 
 tabulate : ℕ → (ℕ → ℕ) → List ℕ
@@ -21,9 +21,9 @@ tabulate-getD (suc n) [] long = absurd (omega arith)
 tabulate-getD (suc n) (x ∷ xs) long = ap (λ (l : List ℕ). x ∷ l) (tabulate-getD n xs (omega arith))
 
 -- a joint has the fields that it was made of
-pub fields-joint : (fields levers : List ℕ) → length fields ≡ 29 → fieldsOf (jointOf fields levers) ≡ fields
+pub fields-joint : (fields levers : List ℕ) → length fields ≡ fieldCount → fieldsOf (jointOf fields levers) ≡ fields
 unfolding fieldsOf jointOf tabulate
-fields-joint fields levers long = rw stored-axial (tabulate-getD 29 fields long)
+fields-joint fields levers long = rw stored-axial (tabulate-getD fieldCount fields long)
 
 -- a joint is made of its fields
 pub joint-fields : (joint : Joint) → jointOf (fieldsOf joint) (joint .face .levers) ≡ joint

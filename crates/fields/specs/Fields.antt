@@ -1,5 +1,5 @@
--- The fields 1 to 29 in file order (document 01, the list of the joint's fields; of field 27, Read on N): the joint that has them, and
--- those of a joint. Assumes nothing.
+-- The fields before the levers in file order (document 01, the list of the joint's fields; of field 27, Read on N): the joint that has
+-- them, and those of a joint. Assumes nothing.
 use Prim.Native.Nat.{ℕ, _+_, _-_, _*_, _/_, _%_}
 use mathlib.Core.List.{List, [], _∷_}
 use mathlib.Core.Bool.{cond}
@@ -24,6 +24,10 @@ storedAxial (negsuc n) = 2 * n + 1
 -- the N that a number of the file stands for
 unfoldable pub axialOf : ℕ → ℤ
 axialOf x = cond (eqb (x % 2) 0) (pos (x / 2)) (negsuc (x / 2))
+
+-- how many fields stand before the levers: document 01's 1 to 29
+abbrev pub fieldCount : ℕ
+fieldCount = 29
 
 -- field k of a file is its k-th number
 abbrev pub field : ℕ → List ℕ → ℕ
@@ -80,11 +84,11 @@ faceOf fields levers =
       levers = levers;
     }
 
--- A joint of its fields 1 to 29, in file order, and its eight levers.
+-- A joint of its fields before the levers, in file order, and its eight levers.
 unfoldable pub jointOf : List ℕ → List ℕ → Joint
 jointOf fields levers = record { column = columnOf fields; bolts = boltsOf fields; face = faceOf fields levers }
 
--- The fields 1 to 29 of a joint, in file order.
+-- The fields of a joint before the levers, in file order.
 unfoldable pub fieldsOf : Joint → List ℕ
 fieldsOf joint =
     let column = joint .column in

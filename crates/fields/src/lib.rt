@@ -1,4 +1,5 @@
-// A joint's fields 1 to 29 in file order: the joint that has them, and those of a joint. Field k of document 01 stands at place k - 1.
+// A joint's fields before the levers, in file order: the joint that has them, and those of a joint. Field k of document 01 stands at
+// place k - 1.
 use joint::Beam;
 use joint::Bolts;
 use joint::Column;
@@ -11,8 +12,11 @@ use joint::Welds;
 ghost use mathlib.Core.Path.{_≡_};
 ghost use Prim.Native.Nat.{_≤_};
 ghost use lib.ListN.{length};
-ghost use Rattle.fields.specs.Fields.{axialOf, storedAxial, columnOf, boltsOf, beamOf, plateOf, layoutOf, weldsOf};
+ghost use Rattle.fields.specs.Fields.{fieldCount, axialOf, storedAxial, columnOf, boltsOf, beamOf, plateOf, layoutOf, weldsOf};
 ghost use Rattle.fields.specs.Fields.{loadsOf, faceOf, jointOf, fieldsOf};
+
+// How many fields stand before the levers: document 01's 1 to 29.
+pub const FIELD_COUNT: usize = 29;
 
 // The axial force that a number of the file stands for.
 fn axial_of(x: u32) -> i32
@@ -34,7 +38,7 @@ pub fn stored_axial(axial: i32) -> u32
 }
 
 fn column_of(fields: &[u32]) -> Column
-    requires { ⌜ 29 ≤ length (now fields) ⌝ }
+    requires { ⌜ fieldCount ≤ length (now fields) ⌝ }
     ensures { λ r. ⌜ r ≡ columnOf (now (fields .entry)) ⌝ }
 {
     Column {
@@ -49,7 +53,7 @@ fn column_of(fields: &[u32]) -> Column
 }
 
 fn bolts_of(fields: &[u32]) -> Bolts
-    requires { ⌜ 29 ≤ length (now fields) ⌝ }
+    requires { ⌜ fieldCount ≤ length (now fields) ⌝ }
     ensures { λ r. ⌜ r ≡ boltsOf (now (fields .entry)) ⌝ }
 {
     Bolts {
@@ -59,7 +63,7 @@ fn bolts_of(fields: &[u32]) -> Bolts
 }
 
 fn beam_of(fields: &[u32]) -> Beam
-    requires { ⌜ 29 ≤ length (now fields) ⌝ }
+    requires { ⌜ fieldCount ≤ length (now fields) ⌝ }
     ensures { λ r. ⌜ r ≡ beamOf (now (fields .entry)) ⌝ }
 {
     Beam {
@@ -72,7 +76,7 @@ fn beam_of(fields: &[u32]) -> Beam
 }
 
 fn plate_of(fields: &[u32]) -> Plate
-    requires { ⌜ 29 ≤ length (now fields) ⌝ }
+    requires { ⌜ fieldCount ≤ length (now fields) ⌝ }
     ensures { λ r. ⌜ r ≡ plateOf (now (fields .entry)) ⌝ }
 {
     Plate {
@@ -83,7 +87,7 @@ fn plate_of(fields: &[u32]) -> Plate
 }
 
 fn layout_of(fields: &[u32]) -> Layout
-    requires { ⌜ 29 ≤ length (now fields) ⌝ }
+    requires { ⌜ fieldCount ≤ length (now fields) ⌝ }
     ensures { λ r. ⌜ r ≡ layoutOf (now (fields .entry)) ⌝ }
 {
     Layout {
@@ -94,7 +98,7 @@ fn layout_of(fields: &[u32]) -> Layout
 }
 
 fn welds_of(fields: &[u32]) -> Welds
-    requires { ⌜ 29 ≤ length (now fields) ⌝ }
+    requires { ⌜ fieldCount ≤ length (now fields) ⌝ }
     ensures { λ r. ⌜ r ≡ weldsOf (now (fields .entry)) ⌝ }
 {
     Welds {
@@ -105,7 +109,7 @@ fn welds_of(fields: &[u32]) -> Welds
 }
 
 fn loads_of(fields: &[u32]) -> Loads
-    requires { ⌜ 29 ≤ length (now fields) ⌝ }
+    requires { ⌜ fieldCount ≤ length (now fields) ⌝ }
     ensures { λ r. ⌜ r ≡ loadsOf (now (fields .entry)) ⌝ }
 {
     Loads {
@@ -116,7 +120,7 @@ fn loads_of(fields: &[u32]) -> Loads
 }
 
 fn face_of(fields: &[u32], levers: [u32; 8]) -> Face
-    requires { ⌜ 29 ≤ length (now fields) ⌝ }
+    requires { ⌜ fieldCount ≤ length (now fields) ⌝ }
     ensures { λ r. ⌜ r ≡ faceOf (now (fields .entry)) levers ⌝ }
 {
     Face {
@@ -132,8 +136,8 @@ fn face_of(fields: &[u32], levers: [u32; 8]) -> Face
     }
 }
 
-// The joint that has these fields 1 to 29 and these levers.
-pub fn joint_of(fields: [u32; 29], levers: [u32; 8]) -> Joint
+// The joint that has these fields before the levers, and these levers.
+pub fn joint_of(fields: [u32; FIELD_COUNT], levers: [u32; 8]) -> Joint
     ensures { λ r. ⌜ r ≡ jointOf fields levers ⌝ }
 {
     Joint {
@@ -143,8 +147,8 @@ pub fn joint_of(fields: [u32; 29], levers: [u32; 8]) -> Joint
     }
 }
 
-// The fields 1 to 29 of a joint.
-pub fn fields_of(joint: Joint) -> [u32; 29]
+// The fields of a joint before the levers.
+pub fn fields_of(joint: Joint) -> [u32; FIELD_COUNT]
     ensures { λ r. ⌜ r ≡ fieldsOf joint ⌝ }
 {
     let loads = joint.face.loads;

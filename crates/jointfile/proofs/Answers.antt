@@ -20,9 +20,9 @@ use Rattle.numbers.specs.Answers.{NumberRead}
 use Rattle.numbers.specs.declared.number.Number.the-variants.{Value, Refused}
 use Rattle.numbers.proofs.Sizes.{storedAll-append}
 use Rattle.fields.specs.Fields.{jointOf, fieldsOf}
-use Rattle.jointfile.specs.File.{readOthers, readJoint, answer}
+use Rattle.jointfile.specs.File.{otherFieldCount, readOthers, readJoint, answer}
 use Rattle.jointfile.specs.Write.{fileOf, file, wrote, turnedDown, roomCheck, writing}
-use Rattle.jointfile.specs.Answers.{placed, writingRows}
+use Rattle.jointfile.specs.Answers.{writingIfRoom, writingRows}
 
 -- ---- the number of rows
 
@@ -45,11 +45,11 @@ levers-eight rows levers e = rw (e, drop-replicate rows 8)
 -- ---- what follows field 1
 
 module _ (bytes : List ℕ) (rows : ℕ) where
-  pub others-refused : (r : ℕ) → refused r ≡ readNumbers 28 bytes → readOthers rows bytes ≡ refused r
+  pub others-refused : (r : ℕ) → refused r ≡ readNumbers otherFieldCount bytes → readOthers rows bytes ≡ refused r
   unfolding readOthers
   others-refused r e = rw (sym e)
 
-  module _ (others rest : List ℕ) (read : got others rest ≡ readNumbers 28 bytes) where
+  module _ (others rest : List ℕ) (read : got others rest ≡ readNumbers otherFieldCount bytes) where
     pub levers-refused : (r : ℕ) → refused r ≡ readNumbers rows rest → readOthers rows bytes ≡ refused r
     unfolding readOthers
     levers-refused r e = rw (sym read, sym e)
@@ -96,8 +96,8 @@ module _ (fields : List ℕ) (rows : ℕ) (levers buffer : List ℕ) where
       sym (fails (wrote buffer bytes) (turnedDown buffer) 6 _ (roomCheck bytes buffer ∷ []) e)
 
   pub writing-file : allZero (drop rows levers) ≡ true
-      → placed (storedAll fields ++ storedAll (take rows levers)) buffer ≡ writingRows fields rows levers buffer
-  unfolding fileOf placed writingRows
+      → writingIfRoom (storedAll fields ++ storedAll (take rows levers)) buffer ≡ writingRows fields rows levers buffer
+  unfolding fileOf writingIfRoom writingRows
   writing-file e =
       let bytes = fileOf fields rows levers in
       rw (← storedAll-append fields (take rows levers))

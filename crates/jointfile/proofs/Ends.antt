@@ -14,14 +14,14 @@ use Rattle.numbers.specs.Number.{readNumber}
 use Rattle.numbers.specs.Run.{readNumbers}
 use Rattle.numbers.proofs.Parsing.{then-got}
 use Rattle.numbers.proofs.Ends.{EndOf, LeavesEnd, end-whole, end-cond, end-then, number-leaves-end, numbers-leave-end, number-shorter}
-use Rattle.jointfile.specs.File.{readOthers, readJoint}
+use Rattle.jointfile.specs.File.{otherFieldCount, readOthers, readJoint}
 
 -- what follows field 1, or refusal 3
 after-rows : (rows : ℕ) (rest : List ℕ) → LeavesEnd rest (cond (within rowCounts rows) (readOthers rows rest) (refused 3))
 unfolding readOthers
 after-rows rows rest =
     end-cond rest (within rowCounts rows) _ _
-    (end-then rest (readNumbers 28 rest) _ (numbers-leave-end 28 rest)
+    (end-then rest (readNumbers otherFieldCount rest) _ (numbers-leave-end otherFieldCount rest)
     (λ others more. end-then more (readNumbers rows more) _ (numbers-leave-end rows more) (λ levers end. end-whole end)))
     tt
 

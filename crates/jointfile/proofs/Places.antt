@@ -13,7 +13,7 @@ use Rattle.numbers.specs.Run.{readNumbers}
 use Rattle.numbers.specs.Parse.{Parse, got, refused}
 use Rattle.numbers.specs.Number.{readNumber}
 use Rattle.numbers.proofs.Refusals.{Numbered, numbered-cond, numbered-then, numbered-number, numbered-numbers}
-use Rattle.jointfile.specs.File.{readOthers, readJoint, answer, reading, leftOf, restOf}
+use Rattle.jointfile.specs.File.{otherFieldCount, readOthers, readJoint, answer, reading, leftOf, restOf}
 use Rattle.jointfile.proofs.Ends.{joint-end}
 
 pub next-within : (bytes : List ℕ) → reading bytes .next ≤ length bytes
@@ -37,7 +37,7 @@ unfolding readJoint readOthers
 numbered-joint bytes =
     numbered-then (readNumber bytes) _ (numbered-number 0 bytes)
     (λ rows rest. numbered-cond (within rowCounts rows) _ _
-    (numbered-then (readNumbers 28 rest) _ (numbered-numbers 28 rest)
+    (numbered-then (readNumbers otherFieldCount rest) _ (numbered-numbers otherFieldCount rest)
     (λ others more. numbered-then (readNumbers rows more) _ (numbered-numbers rows more) (λ levers end. tt)))
     (omega arith))
 

@@ -26,7 +26,7 @@ use Rattle.numbers.proofs.Codec.{read-stored, stored-read, number-small}
 use Rattle.numbers.proofs.Sizes.{storedAll-append}
 use Rattle.fields.specs.Fields.{jointOf, fieldsOf}
 use Rattle.fields.proofs.Order.{fields-joint, joint-fields}
-use Rattle.jointfile.specs.File.{readOthers, readJoint}
+use Rattle.jointfile.specs.File.{otherFieldCount, readOthers, readJoint}
 use Rattle.jointfile.specs.Write.{fileOf, file, writing}
 use Rattle.jointfile.specs.Answers.{Held, Writable}
 use Rattle.jointfile.proofs.Answers.{row-count-most}
@@ -73,7 +73,7 @@ zeros-zero (suc n) = zeros-zero n
 
 -- ---- what is written reads back
 
-read-file : (rows : ℕ) (others levers left : List ℕ) → within rowCounts rows ≡ true → length others ≡ 28 → length levers ≡ rows
+read-file : (rows : ℕ) (others levers left : List ℕ) → within rowCounts rows ≡ true → length others ≡ otherFieldCount → length levers ≡ rows
     → rows < 2 ^ 32 → ((k : ℕ) → getD others k 0 < 2 ^ 32) → ((k : ℕ) → getD levers k 0 < 2 ^ 32)
     → readJoint (storedAll ((rows ∷ others) ++ levers) ++ left) ≡ got (jointOf (rows ∷ others) (eightPlaces levers)) left
 unfolding readJoint readOthers storedAll
@@ -134,7 +134,7 @@ pub record Took (bytes : List ℕ) (joint : Joint) (left : List ℕ) : Type 0 wh
   pub writable : Writable joint
 
 module _ (rows : ℕ) (others levers bytes bytes₁ bytes₂ left : List ℕ) (count : within rowCounts rows ≡ true) (small : rows < 2 ^ 32)
-    (first : stored rows ++ bytes₁ ≡ bytes) (taken : TakenAll bytes₁ 28 others bytes₂) (taken′ : TakenAll bytes₂ rows levers left) where
+    (first : stored rows ++ bytes₁ ≡ bytes) (taken : TakenAll bytes₁ otherFieldCount others bytes₂) (taken′ : TakenAll bytes₂ rows levers left) where
   same-fields : fieldsOf (jointOf (rows ∷ others) (eightPlaces levers)) ≡ rows ∷ others
   same-fields = fields-joint (rows ∷ others) (eightPlaces levers) (ap suc (taken .long))
 
@@ -169,14 +169,14 @@ took-others : (bytes : List ℕ) (rows : ℕ) (bytes₁ : List ℕ) (joint : Joi
 unfolding readOthers
 took-others bytes rows bytes₁ joint left all first count e =
     let (others, bytes₂, read, e₁) =
-    then-got (readNumbers 28 bytes₁)
+    then-got (readNumbers otherFieldCount bytes₁)
     (λ others rest. andThen (readNumbers rows rest) (λ levers end. got (jointOf (rows ∷ others) (eightPlaces levers)) end))
     joint left e in
     let (levers, end, read′, e₂) =
     then-got (readNumbers rows bytes₂) (λ levers end. got (jointOf (rows ∷ others) (eightPlaces levers)) end) joint left e₁ in
     let form = stored-read bytes rows bytes₁ all first in
     let all₁ = bytes-left (stored rows) bytes₁ bytes form all in
-    let taken = taken-all 28 bytes₁ others bytes₂ all₁ read in
+    let taken = taken-all otherFieldCount bytes₁ others bytes₂ all₁ read in
     let taken′ = taken-all rows bytes₂ levers end (bytes-left (storedAll others) bytes₂ bytes₁ (taken .form) all₁) read′ in
     let is : jointOf (rows ∷ others) (eightPlaces levers) ≡ joint = cc in
     let ends : end ≡ left = cc in

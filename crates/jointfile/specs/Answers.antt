@@ -1,5 +1,5 @@
 -- What the code's answer to writing means, what its steps require, and which joints the round trip is about. Assumes nothing.
-use Prim.Native.Nat.{ℕ, _^_, _≤_, _<_}
+use Prim.Native.Nat.{ℕ, _+_, _*_, _^_, _≤_, _<_}
 use mathlib.Core.Path.{_≡_}
 use mathlib.Core.List.{List, [], _∷_}
 use mathlib.Core.Bool.{true}
@@ -8,7 +8,8 @@ use Rattle.arithmetic.specs.Range.{within}
 use Rattle.joint.specs.Ranges.{rowCounts}
 use Rattle.joint.specs.declared.Joint.{Joint}
 use Rattle.numbers.specs.Run.{allZero}
-use Rattle.fields.specs.Fields.{fieldsOf}
+use Rattle.fields.specs.Fields.{fieldCount, fieldsOf}
+use Rattle.jointfile.specs.File.{otherFieldCount}
 use Rattle.jointfile.specs.Write.{fileOf, Writing, turnedDown, spareCheck, roomCheck, tried}
 use Rattle.jointfile.specs.declared.Written.{Written}
 use Rattle.jointfile.specs.declared.Written.the-variants.{Length, Refused}
@@ -18,23 +19,32 @@ abbrev pub writtenMeaning : Written → List ℕ → Writing
 writtenMeaning (Length size) buffer = record { refusal = 0; size = size; buffer = buffer }
 writtenMeaning (Refused r) buffer = turnedDown buffer r
 
--- What is left to try where the row count is right, and where the spare levers are too.
-unfoldable pub placed : (bytes buffer : List ℕ) → Writing
-placed bytes buffer = tried bytes buffer (roomCheck bytes buffer ∷ [])
+-- What writing comes to where the row count and the spare levers are right, so that only the room is left to try.
+unfoldable pub writingIfRoom : (bytes buffer : List ℕ) → Writing
+writingIfRoom bytes buffer = tried bytes buffer (roomCheck bytes buffer ∷ [])
 
+-- What it comes to where the row count is right: the spare levers are tried, and then the room.
 unfoldable pub writingRows : (fields : List ℕ) (rows : ℕ) (levers buffer : List ℕ) → Writing
 writingRows fields rows levers buffer =
     let bytes = fileOf fields rows levers in
     tried bytes buffer (spareCheck rows levers ∷ roomCheck bytes buffer ∷ [])
 
+-- No file is longer: field 1 takes one byte, each of the other fields and of the eight levers at most five.
+abbrev pub mostFile : ℕ
+mostFile = 1 + 5 * (otherFieldCount + 8)
+
+-- No file is shorter: a byte for each field and for one lever.
+abbrev pub leastFile : ℕ
+leastFile = fieldCount + 1
+
 -- The two parts of a file, few enough for the longest file: the fields, of which the first is a row count, and the levers.
 pub record FileParts (fs hs : List ℕ) : Type 0 where
-  pub fields : length fs ≤ 29
+  pub fields : length fs ≤ fieldCount
   pub rows : getD fs 0 0 ≤ 8
   pub levers : length hs ≤ 8
 
--- A joint that the program can hold: eight levers, and each number of the file in 32 bits, which of field 27 says that N is in the range
--- of a signed field.
+-- A joint that the program can hold: eight levers, and each number of the file in 32 bits. N is stored as about twice its size, so that 32
+-- bits of field 27 are what a signed field of 32 bits can hold.
 pub record Held (joint : Joint) : Type 0 where
   pub eight : length (joint .face .levers) ≡ 8
   pub fields : (k : ℕ) → getD (fieldsOf joint) k 0 < 2 ^ 32

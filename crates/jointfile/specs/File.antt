@@ -1,4 +1,4 @@
--- Reading a joint file (document 01, Read): field 1, the other 28 fields and a lever for each row, one number after another, with the
+-- Reading a joint file (document 01, Read): field 1, the other fields and a lever for each row, one number after another, with the
 -- refusal of the first trouble; and what is left after it. Assumes nothing.
 use Prim.Native.Nat.{ℕ, _-_}
 use mathlib.Core.List.{List, [], _∷_}
@@ -11,13 +11,17 @@ use Rattle.joint.specs.declared.Joint.{Joint}
 use Rattle.numbers.specs.Parse.{Parse, got, refused, andThen}
 use Rattle.numbers.specs.Number.{readNumber}
 use Rattle.numbers.specs.Run.{readNumbers}
-use Rattle.fields.specs.Fields.{jointOf}
+use Rattle.fields.specs.Fields.{fieldCount, jointOf}
 use Rattle.jointfile.specs.declared.Reading.{Reading}
 
--- what follows field 1: fields 2 to 29, and the levers of the rows
+-- how many fields stand between field 1 and the levers
+abbrev pub otherFieldCount : ℕ
+otherFieldCount = fieldCount - 1
+
+-- what follows field 1: the other fields, and the levers of the rows
 unfoldable pub readOthers : ℕ → List ℕ → Parse Joint
 readOthers rows bytes =
-    andThen (readNumbers 28 bytes)
+    andThen (readNumbers otherFieldCount bytes)
     (λ others left. andThen (readNumbers rows left) (λ levers rest. got (jointOf (rows ∷ others) (eightPlaces levers)) rest))
 
 -- A joint: 3 is told when field 1 is read, before anything of field 2 is; no other range is looked at.
@@ -26,7 +30,7 @@ readJoint bytes = andThen (readNumber bytes) (λ rows left. cond (within rowCoun
 
 -- What stands in the joint's place in a refusal: every field is 0.
 unfoldable pub noJoint : Joint
-noJoint = jointOf (replicate 29 0) (replicate 8 0)
+noJoint = jointOf (replicate fieldCount 0) (replicate 8 0)
 
 -- What `read` answers of bytes that end at `end`: 0, the joint and the place after it; or the refusal, no joint and the end.
 abbrev pub answer : ℕ → Parse Joint → Reading

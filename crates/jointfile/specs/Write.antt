@@ -12,7 +12,7 @@ use Rattle.buffers.specs.Put.{atFront}
 use Rattle.numbers.specs.Run.{storedAll, allZero}
 use Rattle.fields.specs.Fields.{fieldsOf}
 
--- the 29 + n numbers of a file: the fields, and a lever for each row
+-- the numbers of a file: the fields, and a lever for each row
 unfoldable pub fileOf : List ℕ → ℕ → List ℕ → List ℕ
 fileOf fields rows levers = storedAll (fields ++ take rows levers)
 
@@ -33,7 +33,7 @@ turnedDown buffer r = record { refusal = r; size = 0; buffer = buffer }
 abbrev pub wrote : List ℕ → List ℕ → Writing
 wrote buffer bytes = record { refusal = 0; size = length bytes; buffer = atFront bytes buffer }
 
--- 3: the row count is none; 6: a spare lever isn't 0; 5: the buffer is shorter than the file
+-- 3: the row count isn't 1 to 8; 6: a spare lever isn't 0; 5: the buffer is shorter than the file
 abbrev pub rowsCheck : (rows : ℕ) → Check
 rowsCheck rows = (3, within rowCounts rows)
 

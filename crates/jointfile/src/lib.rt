@@ -2,6 +2,7 @@
 // lent buffer. Each goes over the bytes once, from front to back. Two things are done twice, for a reason. `write` measures the
 // numbers before it puts them where the buffer may be too short for them, since such a buffer stays untouched. And `rest` reads the
 // joint again; a caller that has `read`'s answer need not ask it, since the bytes from the answer's next place on are what is left.
+use fields::FIELD_COUNT;
 use fields::fields_of;
 use fields::joint_of;
 use joint::Joint;
@@ -24,7 +25,7 @@ ghost use Rattle.numbers.specs.Parse.{refused};
 ghost use Rattle.numbers.specs.Run.{storedAll};
 ghost use Rattle.jointfile.specs.File.{readOthers, answer, reading, restOf};
 ghost use Rattle.jointfile.specs.Write.{writing};
-ghost use Rattle.jointfile.specs.Answers.{writtenMeaning, placed, writingRows, FileParts};
+ghost use Rattle.jointfile.specs.Answers.{writtenMeaning, writingIfRoom, writingRows, FileParts};
 
 // What `read` answers.
 pub struct Reading {
@@ -40,7 +41,7 @@ pub struct Reading {
 fn no_joint(refusal: u32, end: usize) -> Reading
     ensures { λ r. ⌜ r ≡ answer end (refused refusal) ⌝ }
 {
-    let fields = [0u32; 29];
+    let fields = [0u32; FIELD_COUNT];
     let levers = [0u32; 8];
     Reading {
         refusal,
@@ -54,7 +55,7 @@ fn read_others(bytes: &[u8], rows: u32, from: usize) -> Reading
     requires { ⌜ (rows ≤ 8) × (from ≤ length (now bytes)) ⌝ }
     ensures { λ r. ⌜ r ≡ answer (length (now (bytes .entry))) (readOthers rows (drop from (now (bytes .entry)))) ⌝ }
 {
-    let mut fields = [0u32; 29];
+    let mut fields = [0u32; FIELD_COUNT];
     fields[0] = rows;
     let others = numbers_at(bytes, from, &mut fields[1..]);
     let Run::Next(after) = others else {
@@ -102,15 +103,18 @@ pub enum Written {
     Refused(u32),
 }
 
-// No file is longer: field 1 takes one byte, each of the other 36 numbers at most five.
-const LONGEST_FILE: usize = 181;
+// No file is longer: field 1 takes one byte, each of the other fields and of the eight levers at most five.
+const MOST_FILE: usize = 1 + 5 * (FIELD_COUNT - 1 + 8);
+
+// No file is shorter: a byte for each field and for one lever.
+pub const LEAST_FILE: usize = FIELD_COUNT + 1;
 
 // Whether so many places hold the file. Only a buffer that is shorter than the longest file asks for measuring.
 fn has_room(fields: &[u32], levers: &[u32], room: usize) -> bool
     requires { ⌜ FileParts (now fields) (now levers) ⌝ }
     ensures { λ r. ⌜ r ≡ leb (length (storedAll (now (fields .entry)) ++ storedAll (now (levers .entry)))) room ⌝ }
 {
-    if LONGEST_FILE <= room {
+    if MOST_FILE <= room {
         return true;
     }
     stored_size(fields) + stored_size(levers) <= room
@@ -120,7 +124,7 @@ fn has_room(fields: &[u32], levers: &[u32], room: usize) -> bool
 fn put_file(fields: &[u32], levers: &[u32], buffer: &mut [u8]) -> Written
     requires { ⌜ FileParts (now fields) (now levers) ⌝ }
     ensures { λ r. ⌜ writtenMeaning r (now (buffer .exit))
-        ≡ placed (storedAll (now (fields .entry)) ++ storedAll (now (levers .entry))) (now (buffer .entry)) ⌝ }
+        ≡ writingIfRoom (storedAll (now (fields .entry)) ++ storedAll (now (levers .entry))) (now (buffer .entry)) ⌝ }
 {
     if has_room(fields, levers, buffer.len()) {
         let at = put_numbers(buffer, 0, fields);
@@ -131,7 +135,7 @@ fn put_file(fields: &[u32], levers: &[u32], buffer: &mut [u8]) -> Written
 }
 
 // Writes the file of a joint whose row count is right: 6 is tried before 5.
-fn write_rows(fields: [u32; 29], rows: u32, levers: [u32; 8], buffer: &mut [u8]) -> Written
+fn write_rows(fields: [u32; FIELD_COUNT], rows: u32, levers: [u32; 8], buffer: &mut [u8]) -> Written
     requires { ⌜ (rows ≤ 8) × (getD fields 0 0 ≤ 8) ⌝ }
     ensures { λ r. ⌜ writtenMeaning r (now (buffer .exit)) ≡ writingRows fields rows levers (now (buffer .entry)) ⌝ }
 {

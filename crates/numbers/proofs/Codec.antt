@@ -66,8 +66,8 @@ pub read-stored : (x : ℕ) → x < 2 ^ 32 → (left : List ℕ) → readNumber 
 read-stored x small left = read-groups 4 x 0 left refl small (λ h. absurd (omega arith))
 
 -- what stands above a lowest group was read
-above-got : (low x : ℕ) (left : List ℕ) (outcome : Parse ℕ) → above 128 low outcome ≡ got x left
-    → (high : ℕ) × (outcome ≡ got high left) × (x ≡ low + 128 * high)
+above-got : (low x : ℕ) (left : List ℕ) (parse : Parse ℕ) → above 128 low parse ≡ got x left
+    → (high : ℕ) × (parse ≡ got high left) × (x ≡ low + 128 * high)
 above-got low x left (got high rest) e = (high, cc, cc)
 above-got low x left (refused r) e = let z : _≡_ {A = ℕ} 0 1 = cc in absurd (omega arith)
 

@@ -92,13 +92,7 @@ numbers-leave-end (suc count) bytes =
     end-then bytes (readNumber bytes) _ (number-leaves-end bytes)
     (λ x rest. end-then rest (readNumbers count rest) _ (numbers-leave-end count rest) (λ xs end. end-whole end))
 
--- ---- so of what was read
-
-pub number-end : (bytes : List ℕ) (x : ℕ) (left : List ℕ) → readNumber bytes ≡ got x left → EndOf bytes left
-number-end bytes x left e = rw e at (number-leaves-end bytes)
-
-pub numbers-end : (count : ℕ) (bytes xs left : List ℕ) → readNumbers count bytes ≡ got xs left → EndOf bytes left
-numbers-end count bytes xs left e = rw e at (numbers-leave-end count bytes)
+-- ---- so less is left than there was
 
 pub number-shorter : (bytes : List ℕ) (x : ℕ) (left : List ℕ) → readNumber bytes ≡ got x left → length left < length bytes
 unfolding readGroups

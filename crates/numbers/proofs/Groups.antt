@@ -19,13 +19,13 @@ use Rattle.numbers.specs.Answers.{NumberRead}
 use Rattle.numbers.specs.declared.number.Number.the-variants.{Value, Refused}
 
 -- nothing read yet
-pub above-none : (outcome : Parse ℕ) → outcome ≡ above 1 0 outcome
+pub above-none : (parse : Parse ℕ) → parse ≡ above 1 0 parse
 above-none (got x left) = simp (zero-add, one-mul)
 above-none (refused r) = refl
 
 -- a group on top of those read
-above-above : (scale value low : ℕ) (outcome : Parse ℕ)
-    → above scale value (above 128 low outcome) ≡ above (scale * 128) (value + scale * low) outcome
+above-above : (scale value low : ℕ) (parse : Parse ℕ)
+    → above scale value (above 128 low parse) ≡ above (scale * 128) (value + scale * low) parse
 above-above scale value low (got x left) = simp (mul-add, mul-assoc, add-assoc)
 above-above scale value low (refused r) = refl
 

@@ -15,20 +15,20 @@ use Rattle.numbers.specs.Answers.{NumberRead, readable, RunRead}
 use Rattle.numbers.specs.declared.number.Number.the-variants.{Value, Refused as NumberRefused}
 use Rattle.numbers.specs.declared.run.Run.the-variants.{Next, Refused}
 
--- these numbers, and then those of the outcome
+-- these numbers, and then those that reading gives
 abbrev pub prepend : List ℕ → Parse (List ℕ) → Parse (List ℕ)
 prepend xs (got ys left) = got (xs ++ ys) left
 prepend xs (refused r) = refused r
 
-prepend-none : (outcome : Parse (List ℕ)) → outcome ≡ prepend [] outcome
+prepend-none : (parse : Parse (List ℕ)) → parse ≡ prepend [] parse
 prepend-none (got xs left) = refl
 prepend-none (refused r) = refl
 
-prepend-prepend : (xs ys : List ℕ) (outcome : Parse (List ℕ)) → prepend xs (prepend ys outcome) ≡ prepend (xs ++ ys) outcome
+prepend-prepend : (xs ys : List ℕ) (parse : Parse (List ℕ)) → prepend xs (prepend ys parse) ≡ prepend (xs ++ ys) parse
 prepend-prepend xs ys (got zs left) = simp append-assoc
 prepend-prepend xs ys (refused r) = refl
 
-then-prepend : (x : ℕ) (outcome : Parse (List ℕ)) → andThen outcome (λ xs rest. got (x ∷ xs) rest) ≡ prepend (x ∷ []) outcome
+then-prepend : (x : ℕ) (parse : Parse (List ℕ)) → andThen parse (λ xs rest. got (x ∷ xs) rest) ≡ prepend (x ∷ []) parse
 then-prepend x (got xs left) = refl
 then-prepend x (refused r) = refl
 

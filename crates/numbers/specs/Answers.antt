@@ -1,5 +1,5 @@
--- What the code's answers mean in the definitions' terms: of a number and of a run of them, read at a place of the bytes, and what a list
--- that was to be filled holds where the run can't be read. Assumes nothing.
+-- What the code's answers mean: the answer to reading a number, and to reading a run of numbers, at a place of the bytes; and what the list
+-- that a run is read into holds afterwards, whether the run could be read or not. Assumes nothing.
 use Prim.Native.Nat.{ℕ, zero, suc, _≤_}
 use mathlib.Core.Path.{_≡_}
 use mathlib.Core.List.{List, [], _∷_}

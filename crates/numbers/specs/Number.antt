@@ -16,7 +16,7 @@ groups (suc most) x = cond (ltb x 128) (x ∷ []) ((128 + x % 128) ∷ groups mo
 abbrev pub stored : ℕ → List ℕ
 stored x = groups 5 x
 
--- The outcome of a number, where that of its groups above the lowest is given.
+-- What reading a number gives, where what reading its groups above the lowest gives is known.
 abbrev pub above : ℕ → ℕ → Parse ℕ → Parse ℕ
 above scale low (got x left) = got (low + scale * x) left
 above scale low (refused r) = refused r

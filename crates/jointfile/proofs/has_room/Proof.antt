@@ -8,7 +8,7 @@ use lib.ListN.{length-append}
 use denote.Ref.{now}
 use Rattle.numbers.specs.Run.{storedAll}
 use Rattle.numbers.proofs.Sizes.{storedAll-short}
-use Rattle.jointfile.proofs.Placed.{parts-fit}
+use Rattle.jointfile.proofs.IfRoom.{parts-fit}
 use borrow.Author.Needs.{needs}
 use Rattle.jointfile.proofs.has_room.Statement.{statement}
 use Rattle.jointfile.proofs.has_room.Tie as tie

@@ -10,7 +10,7 @@ use lib.ListN.{length}
 use denote.Ref.{now}
 use Rattle.numbers.specs.Run.{storedAll}
 use Rattle.buffers.proofs.Puts.{put-both, room-first, room-after}
-use Rattle.jointfile.proofs.Placed.{placed-short, placed-put}
+use Rattle.jointfile.proofs.IfRoom.{short-of-room, put-in-room}
 use borrow.Author.Needs.{needs}
 use Rattle.jointfile.proofs.put_file.Statement.{statement}
 use Rattle.jointfile.proofs.put_file.Tie as tie
@@ -62,10 +62,10 @@ same-length c = search needs
 returns : tie.Need-returns
 returns c =
     let part = first (second c .before) in
-    placed-put (put-both (part .put-numbers .ensures) (second c .put-numbers2 .ensures)) (room (tested part))
+    put-in-room (put-both (part .put-numbers .ensures) (second c .put-numbers2 .ensures)) (room (tested part))
 
 returns-2 : tie.Need-returns-2
-returns-2 c = placed-short _ _ (sym (c .before .has-room .ensures) ∙ c .if1 .left)
+returns-2 c = short-of-room _ _ (sym (c .before .has-room .ensures) ∙ c .if1 .left)
 
 pub put-file-spec : {M : Type 1} → statement M
 put-file-spec =

@@ -12,7 +12,7 @@ use Rattle.numbers.specs.Parse.{got}
 use Rattle.numbers.specs.Run.{readNumbers}
 use Rattle.numbers.specs.Answers.{runRefusal, runMeaning, endPlace}
 use Rattle.numbers.specs.declared.run.Run.{Run}
-use Rattle.jointfile.specs.File.{answer}
+use Rattle.jointfile.specs.File.{otherFieldCount, answer}
 use Rattle.jointfile.proofs.Answers.{levers-eight, others-refused, levers-refused, levers-got, answer-got}
 use borrow.Author.Needs.{needs}
 use Rattle.jointfile.proofs.read_others.Statement.{statement}
@@ -43,7 +43,7 @@ after-others c = c .others .given .0 .0
 
 others-read : (c : tie.After-others) → let s = start (first-run c) in
     got (first-run c .numbers-at .last .1 .1 .0) (drop (after-others c) (now (s .args .bytes)))
-    ≡ readNumbers 28 (drop (s .args .from) (now (s .args .bytes)))
+    ≡ readNumbers otherFieldCount (drop (s .args .from) (now (s .args .bytes)))
 others-read c = ap (runMeaning _ _) (sym (c .others .given .1)) ∙ first-run c .numbers-at .ensures .means
 
 -- the places lent for the levers are as many as there are rows

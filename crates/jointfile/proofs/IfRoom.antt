@@ -1,4 +1,4 @@
--- A file put into a buffer: how long it may be, what is refused for want of room, and what is placed. Assumes nothing.
+-- A file put into a buffer: how long it may be, what is refused for want of room, and what is written where there is room. Assumes nothing.
 use Prim.Native.Nat.{ℕ, _+_, _-_, _*_, _≤_}
 use mathlib.Core.Path.{_≡_, sym, _∙_}
 use mathlib.Core.Bool.{true, false}
@@ -16,7 +16,7 @@ use Rattle.numbers.specs.Run.{storedAll}
 use Rattle.numbers.proofs.Codec.{groups-last}
 use Rattle.numbers.proofs.Sizes.{storedAll-short}
 use Rattle.jointfile.specs.Write.{wrote, turnedDown}
-use Rattle.jointfile.specs.Answers.{FileParts, placed}
+use Rattle.jointfile.specs.Answers.{FileParts, mostFile, writingIfRoom}
 
 -- a number below 128 takes one byte, and no number more than five
 first-short : (xs : List ℕ) → getD xs 0 0 ≤ 8 → length (storedAll xs) ≤ 1 + 5 * (length xs - 1)
@@ -26,20 +26,20 @@ first-short (x ∷ xs) few =
     let one : length (stored x) ≡ 1 = rw (groups-last 4 x (omega arith)) in
     rw length-append (omega (arith, storedAll-short xs))
 
-pub parts-fit : (xs ys : List ℕ) (room : ℕ) → FileParts xs ys → 181 ≤ room → true ≡ leb (length (storedAll xs ++ storedAll ys)) room
+pub parts-fit : (xs ys : List ℕ) (room : ℕ) → FileParts xs ys → mostFile ≤ room → true ≡ leb (length (storedAll xs ++ storedAll ys)) room
 parts-fit xs ys room parts wide =
     sym (le-leb (length (storedAll xs ++ storedAll ys)) room
     (rw length-append (omega (arith, first-short xs (parts .rows), storedAll-short ys, parts .fields, parts .levers))))
 
-pub placed-short : (bytes buffer : List ℕ) → leb (length bytes) (length buffer) ≡ false → turnedDown buffer 5 ≡ placed bytes buffer
-unfolding placed
-placed-short bytes buffer short = sym (fails (wrote buffer bytes) (turnedDown buffer) 5 _ [] short)
+pub short-of-room : (bytes buffer : List ℕ) → leb (length bytes) (length buffer) ≡ false → turnedDown buffer 5 ≡ writingIfRoom bytes buffer
+unfolding writingIfRoom
+short-of-room bytes buffer short = sym (fails (wrote buffer bytes) (turnedDown buffer) 5 _ [] short)
 
 -- bytes that are put from the front on, where there is room for them
-pub placed-put : {bytes buffer exit : List ℕ} {next : ℕ} → Put buffer 0 bytes exit next → leb (length bytes) (length buffer) ≡ true
-    → record { refusal = 0; size = next; buffer = exit } ≡ placed bytes buffer
-unfolding placed firstFailing
-placed-put {bytes} {buffer} {exit} {next} put room =
+pub put-in-room : {bytes buffer exit : List ℕ} {next : ℕ} → Put buffer 0 bytes exit next → leb (length bytes) (length buffer) ≡ true
+    → record { refusal = 0; size = next; buffer = exit } ≡ writingIfRoom bytes buffer
+unfolding writingIfRoom firstFailing
+put-in-room {bytes} {buffer} {exit} {next} put room =
     let fits = leb-true (length bytes) (length buffer) room in
     let size : next ≡ length bytes = omega (arith, put .place) in
     let whole : exit ≡ atFront bytes buffer = put .stores ∙ sets-front bytes buffer fits in
