@@ -19,7 +19,7 @@ use Rattle.joint.specs.Fields.{leverChecks, fixedChecks, fieldChecks, fieldChec
 use Rattle.numbers.specs.Parse.{Parse, got, refused}
 use Rattle.numbers.specs.Run.{storedAll}
 use Rattle.numbers.proofs.Sizes.{groups-positive}
-use Rattle.fields.specs.Fields.{jointOf, fieldsOf}
+use Rattle.fields.specs.Fields.{fieldCount, jointOf, fieldsOf}
 use Rattle.jointfile.specs.File.{readJoint, answer, reading, leftOf, restOf}
 use Rattle.jointfile.specs.Write.{fileOf, file, Writing, turnedDown, writing}
 use Rattle.jointfile.specs.Answers.{writtenMeaning}
@@ -37,7 +37,7 @@ use Rattle.work.specs.Demand.{Demand3Of}
 use Rattle.printer.specs.Sheet.{sheetOf}
 use Rattle.printer.specs.Answers.{printing, printedMeaning}
 use Rattle.printer.specs.declared.Printed.{Printed}
-use Rattle.words.specs.Words.{leversOfWords, jointOfWords}
+use Rattle.words.specs.Words.{jointWordCount, leversOfWords, jointOfWords}
 use Rattle.words.specs.Results.{flag, figureWords, resultWords}
 use Rattle.exports.specs.Answers.{answers}
 use Rattle.exports.specs.Calls.{filePut, writingInto, Demand3OfWords, sheetAnswer, sheetingInto}
@@ -48,14 +48,14 @@ use Rattle.exports.proofs.Answers.{taken, refused as answer-refused}
 pub rest-next : (bytes : List ℕ) → length bytes - length (restOf bytes) ≡ reading bytes .next
 rest-next bytes = go (readJoint bytes)
   where
-    go : (outcome : Parse Joint) → length bytes - length (leftOf outcome) ≡ answer (length bytes) outcome .next
+    go : (parse : Parse Joint) → length bytes - length (leftOf parse) ≡ answer (length bytes) parse .next
     go (got joint left) = refl
     go (refused r) = omega arith
 
 pub rest-within : (bytes : List ℕ) → length (restOf bytes) ≤ length bytes
 rest-within bytes = go (readJoint bytes) refl
   where
-    go : (outcome : Parse Joint) → readJoint bytes ≡ outcome → length (leftOf outcome) ≤ length bytes
+    go : (parse : Parse Joint) → readJoint bytes ≡ parse → length (leftOf parse) ≤ length bytes
     go (got joint left) e = omega (arith, joint-shorter bytes joint left e)
     go (refused r) e = omega arith
 
@@ -104,7 +104,7 @@ write-untouched joint buffer exit number e =
     })
     e
 
-module _ (fields buffer : List ℕ) (size : ℕ) (room : 37 ≤ length fields) {joint : Joint} (same : joint ≡ jointOfWords fields)
+module _ (fields buffer : List ℕ) (size : ℕ) (room : jointWordCount ≤ length fields) {joint : Joint} (same : joint ≡ jointOfWords fields)
     {written : Written} (exit : List ℕ) (means : writtenMeaning written exit ≡ writing joint buffer) where
   -- what the answer's case says
   case-means : {case : Written} → written ≡ case → writtenMeaning case exit ≡ writing (jointOfWords fields) buffer
@@ -113,7 +113,7 @@ module _ (fields buffer : List ℕ) (size : ℕ) (room : 37 ≤ length fields) {
   pub write-put : {count : ℕ} → written ≡ Length count → answers 0 (record { bytes = exit; size = count }) ≡ writingInto fields buffer size
   write-put is =
       let file-put = case-means is in
-      taken _ 0 _ _ (le-leb 37 (length fields) room) (sym (ap (λ (w : Writing). w .refusal) file-put)) (ap filePut file-put)
+      taken _ 0 _ _ (le-leb jointWordCount (length fields) room) (sym (ap (λ (w : Writing). w .refusal) file-put)) (ap filePut file-put)
 
   pub write-refused : {number : ℕ} → written ≡ Refused number
       → answers number (record { bytes = exit; size = size }) ≡ writingInto fields buffer size
@@ -121,27 +121,27 @@ module _ (fields buffer : List ℕ) (size : ℕ) (room : 37 ≤ length fields) {
       let down = case-means is in
       let untouched = write-untouched (jointOfWords fields) buffer exit number down in
       ap (λ (bytes : List ℕ). answers number (record { bytes = bytes; size = size })) (untouched .kept)
-      ∙ answer-refused _ _ _ (le-leb 37 (length fields) room) (ap (λ (w : Writing). w .refusal) down) (untouched .some)
+      ∙ answer-refused _ _ _ (le-leb jointWordCount (length fields) room) (ap (λ (w : Writing). w .refusal) down) (untouched .some)
 
--- ---- Work: a refusal has a number up to 15, and a field up to 37
+-- ---- Work: a refusal has a number up to 15, and a field up to that of the last lever
 
 pub record Small (refusal : Refusal) : Type 0 where
   pub number : refusal .number ≤ 15
-  pub field : refusal .field ≤ 37
+  pub field : refusal .field ≤ jointWordCount
 
-levers-within : (n row : ℕ) (levers : List ℕ) → row + length levers ≤ 8 → allWithin 1 37 (leverChecks n row levers) ≡ true
+levers-within : (n row : ℕ) (levers : List ℕ) → row + length levers ≤ 8 → allWithin 1 jointWordCount (leverChecks n row levers) ≡ true
 unfolding leverChecks allWithin
 levers-within n row [] few = refl
 levers-within n row (h ∷ hs) few =
-    rw (le-leb 1 (30 + row) (omega arith), le-leb (30 + row) 37 (omega arith)) (levers-within n (suc row) hs (omega arith))
+    rw (le-leb 1 (30 + row) (omega arith), le-leb (30 + row) jointWordCount (omega arith)) (levers-within n (suc row) hs (omega arith))
 
-field-small : (joint : Joint) → length (joint .face .levers) ≡ 8 → fieldOf (fieldCheck (joint .column) (joint .bolts) (joint .face)) ≤ 37
+field-small : (joint : Joint) → length (joint .face .levers) ≡ 8 → fieldOf (fieldCheck (joint .column) (joint .bolts) (joint .face)) ≤ jointWordCount
 unfolding fieldCheck fieldChecks fixedChecks allWithin
 field-small joint eight =
     let levers = leverChecks (joint .face .rows) 0 (joint .face .levers) in
     rw (one-after-another AllInRange Outside (fixedChecks (joint .column) (joint .bolts) (joint .face)) levers)
-    (by-number (λ (f : FieldCheck). fieldOf f ≤ 37) 1 37 _ Outside _ refl
-    (by-number (λ (f : FieldCheck). fieldOf f ≤ 37) 1 37 AllInRange Outside levers
+    (by-number (λ (f : FieldCheck). fieldOf f ≤ jointWordCount) 1 jointWordCount _ Outside _ refl
+    (by-number (λ (f : FieldCheck). fieldOf f ≤ jointWordCount) 1 jointWordCount AllInRange Outside levers
     (levers-within (joint .face .rows) 0 (joint .face .levers) (omega arith)) (omega arith) (λ number low high. high))
     (λ number low high. high))
 
@@ -156,18 +156,18 @@ pub work-small : (joint : Joint) → length (joint .face .levers) ≡ 8 → Smal
 unfolding worked
 work-small joint eight = go (fieldCheck (joint .column) (joint .bolts) (joint .face)) (field-small joint eight)
   where
-    go : (found : FieldCheck) → fieldOf found ≤ 37
+    go : (found : FieldCheck) → fieldOf found ≤ jointWordCount
         → Small (workedBy found (workedFace (joint .column) (boltStrengths (joint .bolts)) (joint .face)) .refusal)
     go AllInRange small = face-small joint
     go (Outside field) small = record { number = omega arith; field = small }
 
-levers-eight : (fields : List ℕ) → 37 ≤ length fields → length (jointOfWords fields .face .levers) ≡ 8
+words-have-eight-levers : (fields : List ℕ) → jointWordCount ≤ length fields → length (jointOfWords fields .face .levers) ≡ 8
 unfolding jointOf leversOfWords
-levers-eight fields room = length-take-le 8 (drop 29 fields) (omega (arith, length-drop 29 fields))
+words-have-eight-levers fields room = length-take-le 8 (drop fieldCount fields) (omega (arith, length-drop fieldCount fields))
 
-pub refusal-small : (fields : List ℕ) → 37 ≤ length fields → {joint : Joint} {outcome : Outcome} → joint ≡ jointOfWords fields
+pub refusal-small : (fields : List ℕ) → jointWordCount ≤ length fields → {joint : Joint} {outcome : Outcome} → joint ≡ jointOfWords fields
     → outcome ≡ worked joint → Small (outcome .refusal)
-refusal-small fields room same is = rw (is, same) (work-small (jointOfWords fields) (levers-eight fields room))
+refusal-small fields room same is = rw (is, same) (work-small (jointOfWords fields) (words-have-eight-levers fields room))
 
 -- ---- Sheet
 

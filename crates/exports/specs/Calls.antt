@@ -14,8 +14,8 @@ use Rattle.work.specs.Work.{worked}
 use Rattle.work.specs.Demand.{Demand3}
 use Rattle.printer.specs.Sheet.{sheetOf}
 use Rattle.printer.specs.Answers.{Printing, whole, noRoom, printing}
-use Rattle.words.specs.Words.{jointOfWords, wordsOf}
-use Rattle.words.specs.Results.{resultWords}
+use Rattle.words.specs.Words.{jointWordCount, jointOfWords, wordsOf}
+use Rattle.words.specs.Results.{resultWordCount, resultWords}
 use Rattle.exports.specs.Answers.{Answered, answers, answered}
 
 -- a joint's words and the place after it
@@ -24,7 +24,7 @@ pub record JointPlace : Type 0 where
   pub next : ℕ
 
 -- a buffer, and the count of bytes at its front
-pub record Filled : Type 0 where
+pub record BufferFront : Type 0 where
   pub bytes : List ℕ
   pub size : ℕ
 
@@ -39,20 +39,20 @@ jointPut read words = record { words = atFront (wordsOf (read .joint)) words; ne
 abbrev pub readingInto : (bytes words : List ℕ) (next : ℕ) → Answered JointPlace
 readingInto bytes words next =
     let read = reading bytes in
-    answered (leb 37 (length words)) (read .refusal) 0 (jointPut read words) (record { words = words; next = next })
+    answered (leb jointWordCount (length words)) (read .refusal) 0 (jointPut read words) (record { words = words; next = next })
 
-abbrev pub filePut : Writing → Filled
+abbrev pub filePut : Writing → BufferFront
 filePut written = record { bytes = written .buffer; size = written .size }
 
-abbrev pub writingInto : (fields buffer : List ℕ) (size : ℕ) → Answered Filled
+abbrev pub writingInto : (fields buffer : List ℕ) (size : ℕ) → Answered BufferFront
 writingInto fields buffer size =
     let written = writing (jointOfWords fields) buffer in
-    answered (leb 37 (length fields)) (written .refusal) 0 (filePut written) (record { bytes = buffer; size = size })
+    answered (leb jointWordCount (length fields)) (written .refusal) 0 (filePut written) (record { bytes = buffer; size = size })
 
 abbrev pub workingInto : (fields words : List ℕ) → Answered (List ℕ)
 workingInto fields words =
     let outcome = worked (jointOfWords fields) in
-    answered (leb 37 (length fields) && leb 17 (length words)) (outcome .refusal .number) (outcome .refusal .field)
+    answered (leb jointWordCount (length fields) && leb resultWordCount (length words)) (outcome .refusal .number) (outcome .refusal .field)
     (atFront (resultWords (outcome .result)) words) words
 
 -- Demand 3 of the words at exit: the first eight are the answer's places for forces, and the fourteenth is its verdict on bending.
@@ -62,9 +62,9 @@ Demand3OfWords fields words =
     Demand3 (joint .column) (boltStrengths (joint .bolts)) (joint .face) (take 8 words) (eqb (getD words 13 0) 1)
 
 -- 101: there is no room for all lines
-abbrev pub sheetAnswer : (size : ℕ) → Printing → Answered Filled
+abbrev pub sheetAnswer : (size : ℕ) → Printing → Answered BufferFront
 sheetAnswer size (whole total output) = answers 0 (record { bytes = output; size = total })
 sheetAnswer size (noRoom output) = answers 101 (record { bytes = output; size = size })
 
-abbrev pub sheetingInto : (input output : List ℕ) (size : ℕ) → Answered Filled
+abbrev pub sheetingInto : (input output : List ℕ) (size : ℕ) → Answered BufferFront
 sheetingInto input output size = sheetAnswer size (printing (sheetOf input) output)

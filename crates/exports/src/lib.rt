@@ -14,12 +14,8 @@ ghost use Rattle.exports.specs.Answers.{answers};
 ghost use Rattle.exports.specs.Calls.{allocating, readingInto, writingInto, workingInto, Demand3OfWords, sheetingInto};
 use jointfile::Written;
 use printer::Printed;
-
-// A joint's words.
-const JOINT_WORDS: usize = 37;
-
-// The words of a face's result.
-const RESULT_WORDS: usize = 17;
+use words::joints::JOINT_WORDS;
+use words::results::RESULT_WORDS;
 
 // A lent slice is too short.
 const SHORT: u32 = 100;
@@ -45,7 +41,7 @@ pub extern "C" fn jinqewan_allocate(count: usize, limits: &[u64], forces: &mut [
     0
 }
 
-// Read: the joint goes to the first 37 places, and the place after it to `next`.
+// Read: the joint's words go to the first places, and the place after it to `next`.
 #[no_mangle]
 pub extern "C" fn jinqewan_read(bytes: &[u8], fields: &mut [u32], next: &mut usize) -> u32
     ensures { λ r. ⌜ answers r (record { words = now (fields .exit); next = now (next .exit) })
@@ -91,7 +87,7 @@ pub extern "C" fn jinqewan_write(fields: &[u32], buffer: &mut [u8], length: &mut
     }
 }
 
-// Work: the result goes to the first 17 places, and its forces are the best there are: demand 3.
+// Work: the result's words go to the first places, and its forces are the best there are: demand 3.
 #[no_mangle]
 pub extern "C" fn jinqewan_work(fields: &[u32], result: &mut [u64]) -> u32
     ensures equals { λ r. ⌜ answers r (now (result .exit)) ≡ workingInto (now (fields .entry)) (now (result .entry)) ⌝ }

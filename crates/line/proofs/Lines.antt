@@ -14,6 +14,7 @@ use Rattle.items.specs.Digits.{decimal}
 use Rattle.items.specs.Items.{spaced, letter}
 use Rattle.items.proofs.Numerals.{decimal-short}
 use Rattle.items.proofs.Items.{items, items-append, items-short, letters-size, spaced-append}
+use Rattle.line.specs.Longest.{mostLine}
 use Rattle.line.specs.Line.{lettersOf, figuresOf, rowForces, resultLine, refusalLine, refusalItems, outcomeLine}
 
 -- ---- what a line is made of
@@ -65,7 +66,7 @@ module _ (number rows : ℕ) (result : FaceResult) where
           → length ((a ++ b) ++ (c ++ (d ++ (10 ∷ [])))) ≡ length a + length b + length c + 11
       four-sizes a b c d ten = simp length-append (omega arith)
 
-  pub result-short : length (resultLine number rows result) ≤ 283
+  pub result-short : length (resultLine number rows result) ≤ mostLine
   result-short =
       omega (
         arith,
@@ -107,13 +108,13 @@ module _ (number rows : ℕ) (outcome : Outcome) where
   unfolding outcomeLine
   outcome-refusal some = rw (ne-eqb (outcome .refusal .number) 0 some)
 
-  -- no line is longer than 283 bytes
-  pub outcome-short : length (outcomeLine number rows outcome) ≤ 283
+  -- no line is longer than that
+  pub outcome-short : length (outcomeLine number rows outcome) ≤ mostLine
   unfolding outcomeLine
   outcome-short =
       either _ _ (eqb (outcome .refusal .number) 0) (result-short number rows (outcome .result))
       (omega (arith, refusal-short number (refusalItems (outcome .refusal)) (items-few (outcome .refusal))))
     where
-      either : (line other : List ℕ) (t : Bool) → length line ≤ 283 → length other ≤ 283 → length (cond t line other) ≤ 283
+      either : (line other : List ℕ) (t : Bool) → length line ≤ mostLine → length other ≤ mostLine → length (cond t line other) ≤ mostLine
       either line other true short short′ = short
       either line other false short short′ = short′

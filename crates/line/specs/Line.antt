@@ -42,7 +42,7 @@ lettersOf result =
 abbrev pub figuresOf : FaceResult → List ℕ
 figuresOf result = result .sum ∷ result .«newton_metres» ∷ result .cap ∷ []
 
--- the forces of the rows: of a count above eight, which no joint has, the eight that there are
+-- the forces of the rows; there are eight, and no joint has more rows than that
 abbrev pub rowForces : (rows : ℕ) → List ℕ → List ℕ
 rowForces rows forces = take (min rows 8) forces
 

@@ -21,6 +21,9 @@ ghost use Rattle.items.specs.Items.{spaced};
 ghost use Rattle.line.specs.Line.{checkLetter, verdictLetter, lettersOf, figuresOf, rowForces};
 ghost use Rattle.line.specs.Line.{resultLine, refusalLine, refusalItems, outcomeLine};
 
+// No line is longer.
+pub const MOST_LINE: usize = 283;
+
 // The size of the line of a joint that was read: its result, or the refusal by which Work turned it down.
 pub fn outcome_size(number: u64, rows: u32, outcome: Outcome) -> usize
     ensures { λ r. ⌜ r ≡ length (outcomeLine number rows outcome) ⌝ }
@@ -127,12 +130,12 @@ fn result_size(number: u64, rows: u32, result: FaceResult) -> usize
 fn rows_size(rows: u32, forces: [u64; 8]) -> usize
     ensures { λ r. ⌜ r ≡ length (spaced (map decimal (rows ∷ rowForces rows forces))) ⌝ }
 {
-    let count = shown(rows);
+    let count = forces_shown(rows);
     1 + digit_count(rows as u64) + numbers_size(&forces[..count])
 }
 
-// How many forces a line shows: one for each row, and never more than there are.
-fn shown(rows: u32) -> usize
+// How many forces a line shows: one for each row, and never more than eight.
+fn forces_shown(rows: u32) -> usize
     ensures { λ r. ⌜ r ≡ min rows 8 ⌝ }
 {
     if rows < 8 { rows as usize } else { 8 }
@@ -159,7 +162,7 @@ fn put_rows(buffer: &mut [u8], from: usize, number: u64, rows: u32, forces: [u64
         (now (buffer .exit)) r ⌝ }
 {
     let row_count = [rows as u64];
-    let count = shown(rows);
+    let count = forces_shown(rows);
     let after_number = put_number(buffer, from, number);
     let after_rows = put_numbers(buffer, after_number, &row_count);
     put_numbers(buffer, after_rows, &forces[..count])

@@ -1,6 +1,6 @@
--- How long a sheet can be: a file has at least 30 bytes, so there is at most a line for each 30 bytes and one for the rest, each of at
--- most 283 bytes. So 618355 bytes hold any sheet. Assumes nothing.
-use Prim.Native.Nat.{ℕ, zero, suc, _+_, _*_, _≤_}
+-- How long a sheet can be: there is at most a line for each shortest file and one for the rest, each of at most the longest line's bytes.
+-- So an output of `mostSheet` bytes holds any sheet. Assumes nothing.
+use Prim.Native.Nat.{ℕ, zero, suc, _+_, _-_, _*_, _≤_}
 use mathlib.Core.Path.{_≡_, refl}
 use mathlib.Core.List.{List, [], _∷_, _++_}
 use mathlib.Core.Bool.{Bool, true, false, cond, and-eq-true-iff}
@@ -16,16 +16,18 @@ use Rattle.numbers.specs.Number.{Bytes}
 use Rattle.fields.specs.Fields.{fieldsOf}
 use Rattle.jointfile.specs.File.{readJoint}
 use Rattle.numbers.specs.Run.{storedAll}
+use Rattle.jointfile.specs.Answers.{leastFile}
 use Rattle.jointfile.specs.Write.{fileOf, file}
 use Rattle.numbers.proofs.Sizes.{groups-positive}
 use Rattle.numbers.proofs.RunCodec.{bytes-left}
 use Rattle.jointfile.proofs.RoundTrip.{Took, writes-again}
 use Rattle.items.specs.Digits.{digits}
 use Rattle.items.specs.Items.{spaced}
+use Rattle.line.specs.Longest.{mostLine}
 use Rattle.line.proofs.Lines.{refusal-short, outcome-short}
 use Rattle.work.specs.Work.{worked}
-use Rattle.printer.specs.Sheet.{lineThen, linesWithin, linesOf, overLong, sheetLines, concatenated, sheetOf}
-use Rattle.printer.specs.Answers.{whole, printing, mostPrinted}
+use Rattle.printer.specs.Sheet.{mostInput, lineThen, linesWithin, linesOf, overLong, sheetLines, concatenated, sheetOf}
+use Rattle.printer.specs.Answers.{whole, printing, mostPrinted, mostSheet}
 use Rattle.buffers.specs.Put.{atFront}
 
 storedAll-long : (xs : List ℕ) → length xs ≤ length (storedAll xs)
@@ -36,8 +38,8 @@ storedAll-long (x ∷ xs) = rw length-append (omega (arith, groups-positive 4 x,
 some-row : (rows : ℕ) → within rowCounts rows ≡ true → 1 ≤ rows
 some-row rows count = leb-true 1 rows (and-eq-true-iff (leb 1 rows) (leb rows 8) .0 count .0)
 
--- 29 fields and a lever take a byte each, or more
-file-size : (bytes : List ℕ) (joint : Joint) (left : List ℕ) → Took bytes joint left → length left + 30 ≤ length bytes
+-- the fields and a lever take a byte each, or more
+file-size : (bytes : List ℕ) (joint : Joint) (left : List ℕ) → Took bytes joint left → length left + leastFile ≤ length bytes
 unfolding fileOf fieldsOf
 file-size bytes joint left took =
     let rows = joint .face .rows in
@@ -52,31 +54,31 @@ file-size bytes joint left took =
       some-row rows (took .writable .rows),
     ))
 
-lines-few : (most number : ℕ) (bytes : List ℕ) → Bytes bytes → 30 * length (linesWithin most number bytes) ≤ length bytes + 29
+lines-few : (most number : ℕ) (bytes : List ℕ) → Bytes bytes → leastFile * length (linesWithin most number bytes) ≤ length bytes + (leastFile - 1)
 unfolding linesWithin
 lines-few zero number bytes all = omega arith
 lines-few (suc most) number [] all = omega arith
 lines-few (suc most) number (byte ∷ bytes) all = go (lines-few most (number + 1)) (readJoint (byte ∷ bytes)) refl
   where
-    go : ((left : List ℕ) → Bytes left → 30 * length (linesWithin most (number + 1) left) ≤ length left + 29)
-        → (outcome : Parse Joint) → readJoint (byte ∷ bytes) ≡ outcome
-        → 30 * length (lineThen (linesWithin most (number + 1)) number outcome) ≤ length (byte ∷ bytes) + 29
+    go : ((left : List ℕ) → Bytes left → leastFile * length (linesWithin most (number + 1) left) ≤ length left + (leastFile - 1))
+        → (parse : Parse Joint) → readJoint (byte ∷ bytes) ≡ parse
+        → leastFile * length (lineThen (linesWithin most (number + 1)) number parse) ≤ length (byte ∷ bytes) + (leastFile - 1)
     go few (got joint left) e =
         let took = writes-again (byte ∷ bytes) joint left all e in
         omega (arith, few left (bytes-left (file joint) left (byte ∷ bytes) (took .form) all), file-size (byte ∷ bytes) joint left took)
     go few (refused r) e = omega arith
 
 lines-short : (most number : ℕ) (bytes : List ℕ)
-    → length (concatenated (linesWithin most number bytes)) ≤ 283 * length (linesWithin most number bytes)
+    → length (concatenated (linesWithin most number bytes)) ≤ mostLine * length (linesWithin most number bytes)
 unfolding linesWithin concatenated
 lines-short zero number bytes = omega arith
 lines-short (suc most) number [] = omega arith
 lines-short (suc most) number (byte ∷ bytes) = go (lines-short most (number + 1)) (readJoint (byte ∷ bytes))
   where
-    go : ((left : List ℕ) → length (concatenated (linesWithin most (number + 1) left)) ≤ 283 * length (linesWithin most (number + 1) left))
-        → (outcome : Parse Joint)
-        → length (concatenated (lineThen (linesWithin most (number + 1)) number outcome))
-        ≤ 283 * length (lineThen (linesWithin most (number + 1)) number outcome)
+    go : ((left : List ℕ) → length (concatenated (linesWithin most (number + 1) left)) ≤ mostLine * length (linesWithin most (number + 1) left))
+        → (parse : Parse Joint)
+        → length (concatenated (lineThen (linesWithin most (number + 1)) number parse))
+        ≤ mostLine * length (lineThen (linesWithin most (number + 1)) number parse)
     go short (got joint left) =
         rw length-append (omega (arith, short left, outcome-short number (joint .face .rows) (worked joint)))
     go short (refused r) = rw length-append (omega (arith, refusal-short number (r ∷ []) (omega arith)))
@@ -89,17 +91,17 @@ over-long-size : length (concatenated (overLong ∷ [])) ≡ 4
 unfolding concatenated spaced digits
 over-long-size = refl
 
--- 618355 bytes hold any sheet.
-pub sheet-size : (bytes : List ℕ) → Bytes bytes → length (sheetOf bytes) ≤ 618355
+-- So many bytes hold any sheet.
+pub sheet-size : (bytes : List ℕ) → Bytes bytes → length (sheetOf bytes) ≤ mostSheet
 unfolding sheetLines
-sheet-size bytes all = go (ltb 65536 (length bytes)) refl
+sheet-size bytes all = go (ltb mostInput (length bytes)) refl
   where
-    go : (t : Bool) → ltb 65536 (length bytes) ≡ t → length (concatenated (cond t (overLong ∷ []) (linesOf 1 bytes))) ≤ 618355
+    go : (t : Bool) → ltb mostInput (length bytes) ≡ t → length (concatenated (cond t (overLong ∷ []) (linesOf 1 bytes))) ≤ mostSheet
     go true e = omega (arith, over-long-size)
-    go false e = omega (arith, lines-size bytes all, ltb-false 65536 (length bytes) e)
+    go false e = omega (arith, lines-size bytes all, ltb-false mostInput (length bytes) e)
 
 -- So a buffer of that many bytes never runs out: the whole sheet stands at its front.
-pub sheet-whole : (bytes buffer : List ℕ) → Bytes bytes → 618355 ≤ length buffer
+pub sheet-whole : (bytes buffer : List ℕ) → Bytes bytes → mostSheet ≤ length buffer
     → printing (sheetOf bytes) buffer ≡ whole (length (sheetOf bytes)) (atFront (sheetOf bytes) buffer)
 unfolding printing
 sheet-whole bytes buffer all room =

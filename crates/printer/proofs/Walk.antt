@@ -15,7 +15,7 @@ use Rattle.jointfile.specs.declared.Reading.{Reading}
 use Rattle.jointfile.proofs.Ends.{joint-shorter}
 use Rattle.jointfile.proofs.Places.{next-left, read-taken, read-refused}
 use Rattle.line.specs.Line.{refusalLine}
-use Rattle.printer.specs.Sheet.{Line, jointLine, lineThen, linesWithin, linesOf, overLong, sheetLines}
+use Rattle.printer.specs.Sheet.{Line, mostInput, jointLine, lineThen, linesWithin, linesOf, overLong, sheetLines}
 use Rattle.printer.specs.Answers.{readingLine}
 
 -- any bound that the count of bytes keeps gives the same lines
@@ -33,8 +33,8 @@ lines-same (suc most) (suc most′) number (byte ∷ bytes) h h′ =
   where
     go : ((left : List ℕ) → length left ≤ most → length left ≤ most′
         → linesWithin most (number + 1) left ≡ linesWithin most′ (number + 1) left)
-        → (outcome : Parse Joint) → readJoint (byte ∷ bytes) ≡ outcome
-        → lineThen (linesWithin most (number + 1)) number outcome ≡ lineThen (linesWithin most′ (number + 1)) number outcome
+        → (parse : Parse Joint) → readJoint (byte ∷ bytes) ≡ parse
+        → lineThen (linesWithin most (number + 1)) number parse ≡ lineThen (linesWithin most′ (number + 1)) number parse
     go same (got joint left) e =
         let shorter = joint-shorter (byte ∷ bytes) joint left e in
         ap (λ (lines : List Line). jointLine number joint ∷ lines)
@@ -78,7 +78,7 @@ lines-next number (byte ∷ bytes) some = go (eqb (reading input .refusal) 0) re
 pub next-positive : (bytes : List ℕ) → 0 < length bytes → 0 < reading bytes .next
 next-positive bytes some = go (readJoint bytes) refl
   where
-    go : (outcome : Parse Joint) → readJoint bytes ≡ outcome → 0 < answer (length bytes) outcome .next
+    go : (parse : Parse Joint) → readJoint bytes ≡ parse → 0 < answer (length bytes) parse .next
     go (got joint left) e = let shorter = joint-shorter bytes joint left e in omega arith
     go (refused r) e = some
 
@@ -95,10 +95,10 @@ module _ (number : ℕ) (answer : Reading) where
 
 -- ---- the sheet, case by case
 
-pub sheet-over-long : (bytes : List ℕ) → 65536 < length bytes → sheetLines bytes ≡ overLong ∷ []
+pub sheet-over-long : (bytes : List ℕ) → mostInput < length bytes → sheetLines bytes ≡ overLong ∷ []
 unfolding sheetLines
-sheet-over-long bytes long = rw (lt-ltb 65536 (length bytes) long)
+sheet-over-long bytes long = rw (lt-ltb mostInput (length bytes) long)
 
-pub sheet-joints : (bytes : List ℕ) → length bytes ≤ 65536 → sheetLines bytes ≡ linesOf 1 bytes
+pub sheet-joints : (bytes : List ℕ) → length bytes ≤ mostInput → sheetLines bytes ≡ linesOf 1 bytes
 unfolding sheetLines
-sheet-joints bytes short = rw (le-ltb 65536 (length bytes) short)
+sheet-joints bytes short = rw (le-ltb mostInput (length bytes) short)

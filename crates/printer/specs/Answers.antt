@@ -1,14 +1,16 @@
 -- What printing a sheet into a lent buffer comes to, and the figures that its code goes by. Nothing here is document 01's.
 -- Assumes nothing.
-use Prim.Native.Nat.{ℕ, _+_, _*_, _/_}
+use Prim.Native.Nat.{ℕ, _+_, _-_, _*_, _/_}
 use mathlib.Core.List.{List, [], _∷_}
 use mathlib.Core.Bool.{cond}
 use lib.Dec.{leb, eqb}
 use lib.ListN.{length}
 use Rattle.buffers.specs.Put.{atFront}
 use Rattle.jointfile.specs.declared.Reading.{Reading}
+use Rattle.jointfile.specs.Answers.{leastFile}
 use Rattle.line.specs.Line.{refusalLine}
-use Rattle.printer.specs.Sheet.{Line, jointLine}
+use Rattle.line.specs.Longest.{mostLine}
+use Rattle.printer.specs.Sheet.{Line, mostInput, jointLine}
 use Rattle.printer.specs.declared.Printed.{Printed}
 use Rattle.printer.specs.declared.Printed.the-variants.{Length, NoRoom}
 
@@ -26,9 +28,13 @@ abbrev pub printedMeaning : Printed → List ℕ → Printing
 printedMeaning (Length size) buffer = whole size buffer
 printedMeaning NoRoom buffer = noRoom buffer
 
--- No sheet of so many bytes is longer.
+-- No sheet of so many bytes is longer: a line for each shortest file, and one for what is left.
 abbrev pub mostPrinted : (count : ℕ) → ℕ
-mostPrinted count = (count + 29) / 30 * 283
+mostPrinted count = (count + (leastFile - 1)) / leastFile * mostLine
+
+-- No sheet is longer.
+abbrev pub mostSheet : ℕ
+mostSheet = mostPrinted mostInput
 
 -- the line of a joint by `read`'s answer
 unfoldable pub readingLine : (number : ℕ) → Reading → Line

@@ -38,9 +38,13 @@ linesOf number bytes = linesWithin (length bytes) number bytes
 abbrev pub overLong : Line
 overLong = lineOf (letter 82) (decimal 4 ∷ [])
 
--- '4: over 65536 bytes'; 'Joints count from 1'
+-- '4: over 65536 bytes'
+abbrev pub mostInput : ℕ
+mostInput = 65536
+
+-- `R 4` alone where the input is longer than that; 'Joints count from 1'
 unfoldable pub sheetLines : (bytes : List ℕ) → List Line
-sheetLines bytes = cond (ltb 65536 (length bytes)) (overLong ∷ []) (linesOf 1 bytes)
+sheetLines bytes = cond (ltb mostInput (length bytes)) (overLong ∷ []) (linesOf 1 bytes)
 
 -- lines one after another
 unfoldable pub concatenated : List Line → List ℕ

@@ -1,8 +1,10 @@
 // The sheet (document 01, 'Sheet program'): joint files end to end in, a line for each out. Each joint is read once, worked once and put
 // straight into the caller's buffer; the input is walked by the place after each joint. Only where the output may be too short are the
 // lines measured first, since such an output stays as it was.
+use jointfile::LEAST_FILE;
 use jointfile::Reading;
 use jointfile::read;
+use line::MOST_LINE;
 use line::outcome_size;
 use line::put_outcome;
 use line::put_read_refusal;
@@ -14,11 +16,17 @@ ghost use mathlib.Core.List.{[], _∷_};
 ghost use lib.Dec.{leb};
 ghost use lib.ListN.{length};
 ghost use Rattle.buffers.specs.Put.{Put};
-ghost use Rattle.printer.specs.Sheet.{linesOf, overLong, concatenated, sheetOf};
+ghost use Rattle.printer.specs.Sheet.{mostInput, linesOf, overLong, concatenated, sheetOf};
 ghost use Rattle.printer.specs.Answers.{printing, printedMeaning, mostPrinted, readingLine};
 
 // Joints count from 1.
 const FIRST: u64 = 1;
+
+// An input of more bytes is refused by 4.
+pub const MOST_INPUT: usize = 65536;
+
+// No sheet is longer.
+pub const MOST_SHEET: usize = (MOST_INPUT + (LEAST_FILE - 1)) / LEAST_FILE * MOST_LINE;
 
 // What printing answers: the count of bytes at the buffer's front, or that there is no room for all lines.
 pub enum Printed {
@@ -30,7 +38,7 @@ pub enum Printed {
 pub fn sheet(input: &[u8], output: &mut [u8]) -> Printed
     ensures { λ r. ⌜ printedMeaning r (now (output .exit)) ≡ printing (sheetOf (now (input .entry))) (now (output .entry)) ⌝ }
 {
-    if 65536 < input.len() {
+    if MOST_INPUT < input.len() {
         return print_over_long(output);
     }
     print_joints(input, output)
@@ -51,7 +59,7 @@ fn print_over_long(output: &mut [u8]) -> Printed
 }
 
 fn print_joints(input: &[u8], output: &mut [u8]) -> Printed
-    requires { ⌜ length (now input) ≤ 65536 ⌝ }
+    requires { ⌜ length (now input) ≤ mostInput ⌝ }
     ensures { λ r. ⌜ printedMeaning r (now (output .exit))
         ≡ printing (concatenated (linesOf 1 (now (input .entry)))) (now (output .entry)) ⌝ }
 {
@@ -64,7 +72,7 @@ fn print_joints(input: &[u8], output: &mut [u8]) -> Printed
 
 // Whether so many places hold the lines. Only an output that is shorter than the longest sheet of so many bytes asks for measuring.
 fn has_room(input: &[u8], room: usize) -> bool
-    requires { ⌜ length (now input) ≤ 65536 ⌝ }
+    requires { ⌜ length (now input) ≤ mostInput ⌝ }
     ensures { λ r. ⌜ r ≡ leb (length (concatenated (linesOf 1 (now (input .entry))))) room ⌝ }
 {
     if most_printed(input.len()) <= room {
@@ -73,17 +81,17 @@ fn has_room(input: &[u8], room: usize) -> bool
     lines_size(input) <= room
 }
 
-// No sheet of so many bytes is longer: a file has at least 30 bytes, and a line at most 283.
+// No sheet of so many bytes is longer: a line for each shortest file, and one for what is left.
 fn most_printed(count: usize) -> usize
-    requires { ⌜ count ≤ 65536 ⌝ }
+    requires { ⌜ count ≤ mostInput ⌝ }
     ensures { λ r. ⌜ r ≡ mostPrinted count ⌝ }
 {
-    (count + 29) / 30 * 283
+    (count + (LEAST_FILE - 1)) / LEAST_FILE * MOST_LINE
 }
 
 // The size of all lines. The bound keeps the joints' count in range, here and in `put_joints`.
 fn lines_size(input: &[u8]) -> usize
-    requires { ⌜ length (now input) ≤ 65536 ⌝ }
+    requires { ⌜ length (now input) ≤ mostInput ⌝ }
     ensures { λ r. ⌜ r ≡ length (concatenated (linesOf 1 (now (input .entry)))) ⌝ }
 {
     let mut from = 0;
@@ -100,7 +108,7 @@ fn lines_size(input: &[u8]) -> usize
 
 // Puts all lines, and answers their size. A joint that can't be read is the last: the place after it is the input's end.
 fn put_joints(input: &[u8], output: &mut [u8]) -> usize
-    requires { ⌜ (length (now input) ≤ 65536) × (length (concatenated (linesOf 1 (now input))) ≤ length (now output)) ⌝ }
+    requires { ⌜ (length (now input) ≤ mostInput) × (length (concatenated (linesOf 1 (now input))) ≤ length (now output)) ⌝ }
     ensures { λ r. ⌜ Put (now (output .entry)) 0 (concatenated (linesOf 1 (now (input .entry)))) (now (output .exit)) r ⌝ }
 {
     let mut from = 0;

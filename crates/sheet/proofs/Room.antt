@@ -9,13 +9,13 @@ use lib.Seq.{length-take-le}
 use Rattle.numbers.specs.Number.{Bytes}
 use Rattle.buffers.specs.Put.{atFront}
 use Rattle.printer.specs.Sheet.{sheetOf}
-use Rattle.printer.specs.Answers.{whole, noRoom, printing, printedMeaning}
+use Rattle.printer.specs.Answers.{whole, mostSheet, printing, printedMeaning}
 use Rattle.printer.specs.declared.Printed.{Printed}
 use Rattle.printer.specs.declared.Printed.the-variants.{Length, NoRoom}
 use Rattle.printer.proofs.Sizes.{sheet-whole}
 use Rattle.sheet.specs.Whole.{Whole}
 
-module _ (input output exit : List ℕ) (all : Bytes input) (room : 618355 ≤ length output) {printed : Printed}
+module _ (input output exit : List ℕ) (all : Bytes input) (room : mostSheet ≤ length output) {printed : Printed}
     (means : printedMeaning printed exit ≡ printing (sheetOf input) output) where
   -- what was printed is the whole sheet
   printed-all : {case : Printed} → printed ≡ case

@@ -4,32 +4,36 @@ use input::was_read_whole;
 use libc::STDERR_FILENO;
 use libc::STDIN_FILENO;
 use libc::STDOUT_FILENO;
+use printer::MOST_INPUT;
+use printer::MOST_SHEET;
 use printer::Printed;
-ghost use Prim.Native.Nat.{_≤_};
+ghost use Prim.Native.Nat.{_+_, _≤_};
 ghost use mathlib.Core.Path.{_≡_};
 ghost use lib.ListN.{length};
+ghost use Rattle.printer.specs.Sheet.{mostInput};
+ghost use Rattle.printer.specs.Answers.{mostSheet};
 ghost use Rattle.sheet.specs.Whole.{Whole};
 
 // One byte more than a sheet takes, so that an input that is too long is seen to be.
-const INPUT_SPACE: usize = 65537;
+const INPUT_SPACE: usize = MOST_INPUT + 1;
 
 // Zeros for what is read.
-fn input_space() -> [u8; 65537]
-    ensures { λ r. ⌜ 65537 ≡ length r ⌝ }
+fn input_space() -> [u8; INPUT_SPACE]
+    ensures { λ r. ⌜ mostInput + 1 ≡ length r ⌝ }
 {
-    [0; 65537]
+    [0; INPUT_SPACE]
 }
 
 // Zeros for what is printed: no sheet is longer.
-fn output_space() -> [u8; 618355]
-    ensures { λ r. ⌜ 618355 ≡ length r ⌝ }
+fn output_space() -> [u8; MOST_SHEET]
+    ensures { λ r. ⌜ mostSheet ≡ length r ⌝ }
 {
-    [0; 618355]
+    [0; MOST_SHEET]
 }
 
 // Prints the sheet of the input, whole, to the front of the output. There is always room for it.
 fn print_sheet(input: &[u8], output: &mut [u8]) -> usize
-    requires { ⌜ 618355 ≤ length (now output) ⌝ }
+    requires { ⌜ mostSheet ≤ length (now output) ⌝ }
     ensures { λ r. ⌜ Whole (now (input .entry)) (now (output .entry)) (now (output .exit)) r ⌝ }
 {
     let printed = printer::sheet(input, output);

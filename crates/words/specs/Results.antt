@@ -1,12 +1,19 @@
--- What a face comes to, as 17 words: eight forces, sum, newton metres, cap, check, governing force and four verdicts.
+-- What a face comes to, as words: eight forces, sum, newton metres, cap, check, governing force and four verdicts.
 -- Assumes nothing.
-use Prim.Native.Nat.{ℕ}
+use Prim.Native.Nat.{ℕ, _+_}
 use mathlib.Core.List.{List, [], _∷_, _++_}
 use mathlib.Core.Bool.{Bool, cond}
 use Rattle.governing.specs.declared.CompressionCheck.{CompressionCheck}
 use Rattle.governing.specs.declared.CompressionCheck.the-variants.{Flange, Bearing, Buckling, Panel}
 use Rattle.governing.specs.Governing.{forceOf}
 use Rattle.outcome.specs.declared.FaceResult.{FaceResult}
+
+-- how many words come after the forces, and how many there are with them
+abbrev pub figureWordCount : ℕ
+figureWordCount = 9
+
+abbrev pub resultWordCount : ℕ
+resultWordCount = 8 + figureWordCount
 
 -- F, B, K, S in their order
 abbrev pub checkNumber : CompressionCheck → ℕ

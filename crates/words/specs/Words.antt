@@ -1,13 +1,17 @@
--- A joint as 37 words: document 01's fields in file order, spare levers included, N by its two's complement in 32 bits.
+-- A joint as words: document 01's fields in file order, all eight levers, N by its two's complement in 32 bits.
 -- Assumes nothing.
-use Prim.Native.Nat.{ℕ, _-_}
+use Prim.Native.Nat.{ℕ, _+_, _-_}
 use mathlib.Core.List.{List, _++_}
 use mathlib.Core.Bool.{cond}
 use lib.Dec.{ltb}
 use lib.IntN.{ℤ, pos, negsuc}
 use lib.ListN.{set, take, drop}
 use Rattle.joint.specs.declared.Joint.{Joint}
-use Rattle.fields.specs.Fields.{field, storedAxial, jointOf, fieldsOf}
+use Rattle.fields.specs.Fields.{fieldCount, field, storedAxial, jointOf, fieldsOf}
+
+-- how many words a joint is: its fields and eight levers
+abbrev pub jointWordCount : ℕ
+jointWordCount = fieldCount + 8
 
 -- ---- the joint of words
 
@@ -15,14 +19,14 @@ use Rattle.fields.specs.Fields.{field, storedAxial, jointOf, fieldsOf}
 unfoldable pub axialOfWord : ℕ → ℤ
 axialOfWord word = cond (ltb word 2147483648) (pos word) (negsuc (4294967295 - word))
 
--- Fields 1 to 29 as the file has them: each is its word, and N is stored as the file stores it.
+-- The fields before the levers as the file has them: each is its word, and N is stored as the file stores it.
 unfoldable pub fieldsOfWords : List ℕ → List ℕ
-fieldsOfWords words = set (take 29 words) 26 (storedAxial (axialOfWord (field 27 words)))
+fieldsOfWords words = set (take fieldCount words) 26 (storedAxial (axialOfWord (field 27 words)))
 
 unfoldable pub leversOfWords : List ℕ → List ℕ
-leversOfWords words = take 8 (drop 29 words)
+leversOfWords words = take 8 (drop fieldCount words)
 
--- the joint of 37 words
+-- the joint of its words
 abbrev pub jointOfWords : List ℕ → Joint
 jointOfWords words = jointOf (fieldsOfWords words) (leversOfWords words)
 

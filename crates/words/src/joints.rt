@@ -1,13 +1,18 @@
-// A joint as 37 words, and back. Field k of document 01 stands at place k - 1.
+// A joint as words, and back. Field k of document 01 stands at place k - 1.
 ghost use mathlib.Core.Path.{_≡_};
 ghost use Prim.Native.Nat.{_≤_};
 ghost use lib.ListN.{length};
 ghost use Rattle.buffers.specs.Put.{atFront};
 ghost use Rattle.fields.specs.Fields.{storedAxial};
-ghost use Rattle.words.specs.Words.{axialOfWord, wordOfAxial, fieldsOfWords, leversOfWords, jointOfWords, headOf, wordsOf};
+ghost use Rattle.words.specs.Words.{jointWordCount, axialOfWord, wordOfAxial, fieldsOfWords, leversOfWords};
+ghost use Rattle.words.specs.Words.{jointOfWords, headOf, wordsOf};
 use crate::put::put_eight_u32;
 use crate::put::put_u32;
+use fields::FIELD_COUNT;
 use joint::Joint;
+
+// How many words a joint is: its fields and eight levers.
+pub const JOINT_WORDS: usize = FIELD_COUNT + 8;
 
 // The number that the file stores for the axial force of a word.
 fn stored_of(word: u32) -> u32
@@ -20,37 +25,37 @@ fn stored_of(word: u32) -> u32
     }
 }
 
-// Fields 1 to 29, as the file stores them.
-fn fields_of(words: &[u32]) -> [u32; 29]
-    requires { ⌜ 37 ≤ length (now words) ⌝ }
+// The fields before the levers, as the file stores them.
+fn file_fields_of(words: &[u32]) -> [u32; FIELD_COUNT]
+    requires { ⌜ jointWordCount ≤ length (now words) ⌝ }
     ensures { λ r. ⌜ r ≡ fieldsOfWords (now (words .entry)) ⌝ }
 {
-    let mut fields = [0u32; 29];
-    put_u32(&mut fields, 0, &words[..29]);
+    let mut fields = [0u32; FIELD_COUNT];
+    put_u32(&mut fields, 0, &words[..FIELD_COUNT]);
     fields[26] = stored_of(words[26]);
     fields
 }
 
 fn levers_of(words: &[u32]) -> [u32; 8]
-    requires { ⌜ 37 ≤ length (now words) ⌝ }
+    requires { ⌜ jointWordCount ≤ length (now words) ⌝ }
     ensures { λ r. ⌜ r ≡ leversOfWords (now (words .entry)) ⌝ }
 {
     let mut levers = [0u32; 8];
-    put_u32(&mut levers, 0, &words[29..37]);
+    put_u32(&mut levers, 0, &words[FIELD_COUNT..JOINT_WORDS]);
     levers
 }
 
-// The joint of 37 words.
+// The joint of its words.
 pub fn joint_of(words: &[u32]) -> Joint
-    requires { ⌜ 37 ≤ length (now words) ⌝ }
+    requires { ⌜ jointWordCount ≤ length (now words) ⌝ }
     ensures { λ r. ⌜ r ≡ jointOfWords (now (words .entry)) ⌝ }
 {
-    let fields = fields_of(words);
+    let fields = file_fields_of(words);
     let levers = levers_of(words);
     fields::joint_of(fields, levers)
 }
 
-// The word of an axial force. -1 - axial is not below 0 where axial is, and can't wrap.
+// The word of an axial force: its two's complement. Where the force is below 0, -1 - axial isn't, and can't wrap.
 fn word_of(axial: i32) -> u32
     ensures { λ r. ⌜ r ≡ wordOfAxial axial ⌝ }
 {
@@ -62,7 +67,7 @@ fn word_of(axial: i32) -> u32
 }
 
 // The words before the levers: the fields, with N as a word.
-fn head_of(joint: Joint) -> [u32; 29]
+fn head_of(joint: Joint) -> [u32; FIELD_COUNT]
     ensures { λ r. ⌜ r ≡ headOf joint ⌝ }
 {
     let loads = joint.face.loads;
@@ -73,12 +78,12 @@ fn head_of(joint: Joint) -> [u32; 29]
 
 // Puts a joint's words at the front of a slice.
 pub fn put_joint(joint: Joint, words: &mut [u32])
-    requires { ⌜ 37 ≤ length (now words) ⌝ }
+    requires { ⌜ jointWordCount ≤ length (now words) ⌝ }
     ensures { λ _. ⌜ now (words .exit) ≡ atFront (wordsOf joint) (now (words .entry)) ⌝ }
 {
     let face = joint.face;
     let levers = face.levers;
     let head = head_of(joint);
     put_u32(words, 0, &head);
-    put_eight_u32(words, 29, levers);
+    put_eight_u32(words, FIELD_COUNT, levers);
 }

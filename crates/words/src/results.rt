@@ -1,13 +1,18 @@
-// What a face comes to, as 17 words.
+// What a face comes to, as words.
 ghost use mathlib.Core.Path.{_≡_};
 ghost use Prim.Native.Nat.{_≤_};
 ghost use lib.ListN.{length};
 ghost use Rattle.buffers.specs.Put.{atFront};
-ghost use Rattle.words.specs.Results.{checkNumber, flag, figureWords, resultWords};
+ghost use Rattle.words.specs.Results.{resultWordCount, checkNumber, flag, figureWords, resultWords};
 use crate::put::put_eight_u64;
 use crate::put::put_u64;
 use governing::CompressionCheck;
 use outcome::FaceResult;
+
+// The words after the forces, and all of them.
+const FIGURE_WORDS: usize = 9;
+
+pub const RESULT_WORDS: usize = 8 + FIGURE_WORDS;
 
 fn check_number(check: CompressionCheck) -> u64
     ensures { λ r. ⌜ r ≡ checkNumber check ⌝ }
@@ -27,7 +32,7 @@ fn flag_of(passes: bool) -> u64
 }
 
 // The words after the forces.
-fn figures_of(result: FaceResult) -> [u64; 9]
+fn figures_of(result: FaceResult) -> [u64; FIGURE_WORDS]
     ensures { λ r. ⌜ r ≡ figureWords result ⌝ }
 {
     let check = result.check;
@@ -53,7 +58,7 @@ fn figures_of(result: FaceResult) -> [u64; 9]
 
 // Puts the words at the front of a slice.
 pub fn put_result(result: FaceResult, words: &mut [u64])
-    requires { ⌜ 17 ≤ length (now words) ⌝ }
+    requires { ⌜ resultWordCount ≤ length (now words) ⌝ }
     ensures { λ _. ⌜ (length (result .forces) ≡ 8) × (now (words .exit) ≡ atFront (resultWords result) (now (words .entry))) ⌝ }
 {
     let forces = result.forces;

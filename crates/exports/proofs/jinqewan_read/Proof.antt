@@ -5,6 +5,7 @@ use borrow.Author.Tests.{lt-leb, le-leb}
 use denote.Ref.{now}
 use Rattle.jointfile.specs.File.{reading}
 use Rattle.jointfile.specs.declared.Reading.{Reading}
+use Rattle.words.specs.Words.{jointWordCount}
 use Rattle.exports.specs.Calls.{JointPlace, jointPut}
 use Rattle.exports.proofs.Answers.{too-short, taken, refused}
 use borrow.Author.Needs.{needs}
@@ -28,7 +29,7 @@ was-read c = c .before .before
 -- ---- the needs
 
 returns : tie.Need-returns
-returns c = too-short _ _ _ _ (lt-leb 37 _ (c .if1 .taken))
+returns c = too-short _ _ _ _ (lt-leb jointWordCount _ (c .if1 .taken))
 
 read-requires : tie.Need-read-requires
 read-requires c κs = search needs
@@ -40,7 +41,7 @@ same-refusal c = ap (λ (r : Reading). r .refusal) (c .read .ensures)
 returns-2 : tie.Need-returns-2
 returns-2 c =
     let call = c .before .before in
-    refused _ _ _ (le-leb 37 _ (long-enough call .if1 .left)) (same-refusal call) (c .if2 .taken)
+    refused _ _ _ (le-leb jointWordCount _ (long-enough call .if1 .left)) (same-refusal call) (c .if2 .taken)
 
 put-joint-requires : tie.Need-put-joint-requires
 put-joint-requires c κs = search needs
@@ -53,11 +54,11 @@ returns-3 c =
     let put = c .before .before in
     let call = was-read put .before .before in
     let words = now (begin call .args .fields) in
-    let placed : _≡_ {A = JointPlace} (record { words = put .put-joint .last .1 .0; next = call .read .result .next })
+    let words-put : _≡_ {A = JointPlace} (record { words = put .put-joint .last .1 .0; next = call .read .result .next })
     (jointPut (call .read .result) words) =
     λ i. record { words = put .put-joint .ensures i; next = call .read .result .next } in
-    taken _ 0 _ _ (le-leb 37 _ (long-enough call .if1 .left)) (sym (same-refusal call) ∙ was-read put .if2 .left)
-    (placed ∙ ap (λ (r : Reading). jointPut r words) (call .read .ensures))
+    taken _ 0 _ _ (le-leb jointWordCount _ (long-enough call .if1 .left)) (sym (same-refusal call) ∙ was-read put .if2 .left)
+    (words-put ∙ ap (λ (r : Reading). jointPut r words) (call .read .ensures))
 
 pub jinqewan-read-spec : {M : Type 1} → statement M
 jinqewan-read-spec =

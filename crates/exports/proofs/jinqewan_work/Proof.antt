@@ -11,8 +11,8 @@ use lib.ListN.{length}
 use Rattle.buffers.specs.Put.{atFront}
 use Rattle.outcome.specs.declared.Outcome.{Outcome}
 use Rattle.work.specs.Work.{worked}
-use Rattle.words.specs.Words.{jointOfWords}
-use Rattle.words.specs.Results.{resultWords}
+use Rattle.words.specs.Words.{jointWordCount, jointOfWords}
+use Rattle.words.specs.Results.{resultWordCount, resultWords}
 use Rattle.exports.specs.Answers.{answerNumber}
 use Rattle.exports.proofs.Answers.{too-short, turned-down, taken}
 use Rattle.exports.proofs.Calls.{Small, refusal-small, demand-words}
@@ -47,10 +47,10 @@ passed c = c .before .before .before
 
 long-both : (c : tie.After-work)
     → let args = begin c .args in
-    (leb 37 (length (now (args .fields))) && leb 17 (length (now (args .result)))) ≡ true
+    (leb jointWordCount (length (now (args .fields))) && leb resultWordCount (length (now (args .result)))) ≡ true
 long-both c =
     let second = long-enough c in
-    simp (le-leb 37 _ (words-enough second .if1 .left), le-leb 17 _ (second .if2 .left))
+    simp (le-leb jointWordCount _ (words-enough second .if1 .left), le-leb resultWordCount _ (second .if2 .left))
 
 same-outcome : (c : tie.After-work) → c .work .result ≡ worked (jointOfWords (now (begin c .args .fields)))
 same-outcome c = c .work .ensures .0 ∙ ap worked (c .before .joint-of .ensures)
@@ -63,11 +63,11 @@ small c =
 -- ---- the needs
 
 returns : tie.Need-returns
-returns c = (too-short _ _ _ _ (simp (lt-leb 37 _ (c .if1 .taken))), λ none. absurd (omega (arith, none)))
+returns c = (too-short _ _ _ _ (simp (lt-leb jointWordCount _ (c .if1 .taken))), λ none. absurd (omega (arith, none)))
 
 returns-2 : tie.Need-returns-2
 returns-2 c = (
-  too-short _ _ _ _ (simp (le-leb 37 _ (c .before .if1 .left), lt-leb 17 _ (c .if2 .taken))),
+  too-short _ _ _ _ (simp (le-leb jointWordCount _ (c .before .if1 .left), lt-leb resultWordCount _ (c .if2 .taken))),
   λ none. absurd (omega (arith, none)),
 )
 

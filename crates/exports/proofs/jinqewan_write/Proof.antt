@@ -1,6 +1,7 @@
 -- `jinqewan_write` meets its contract: the slice is too short for a joint, or each case of `write`'s answer says what the definition does.
 -- Assumes nothing.
 use borrow.Author.Tests.{lt-leb}
+use Rattle.words.specs.Words.{jointWordCount}
 use Rattle.exports.proofs.Answers.{too-short}
 use Rattle.exports.proofs.Calls.{write-put, write-refused}
 use borrow.Author.Needs.{needs}
@@ -21,7 +22,7 @@ written c = c .before .before
 -- ---- the needs
 
 returns : tie.Need-returns
-returns c = too-short _ _ _ _ (lt-leb 37 _ (c .if1 .taken))
+returns c = too-short _ _ _ _ (lt-leb jointWordCount _ (c .if1 .taken))
 
 joint-of-requires : tie.Need-joint-of-requires
 joint-of-requires c κs = search needs

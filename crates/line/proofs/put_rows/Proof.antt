@@ -17,10 +17,10 @@ use Rattle.line.proofs.put_rows.Tie as tie
 
 -- ---- the places of the walk, each a step from the one before it
 
-abbrev start : tie.After-shown → tie.Start
+abbrev start : tie.After-forces-shown → tie.Start
 start c = c .before .before
 
-abbrev count-known : tie.After-put-number → tie.After-shown
+abbrev count-known : tie.After-put-number → tie.After-forces-shown
 count-known c = c .before .before
 
 abbrev number-put : tie.After-put-numbers-arg → tie.After-put-number
@@ -39,7 +39,7 @@ abbrev forces-put : tie.After-slice-known4 → tie.After-put-numbers2
 forces-put c = c .before .before
 
 -- how many forces are shown, and the start, from the place after the row count
-abbrev rows-count : tie.After-put-numbers → tie.After-shown
+abbrev rows-count : tie.After-put-numbers → tie.After-forces-shown
 rows-count c = count-known (number-put (before-rows c))
 
 -- ---- what is left to put has room, place by place
@@ -58,8 +58,8 @@ room-rows c = room-after _ (c .put-number .ensures) (room-whole (start (count-kn
 
 -- ---- the needs
 
-shown-requires : tie.Need-shown-requires
-shown-requires c κs = search needs
+forces-shown-requires : tie.Need-forces-shown-requires
+forces-shown-requires c κs = search needs
 
 put-number-requires : tie.Need-put-number-requires
 put-number-requires c κs =
@@ -83,7 +83,7 @@ slice-aggregate-put-numbers-2 c = sym (length-take-le _ _ (omega arith))
 put-numbers-requires-2 : tie.Need-put-numbers-requires-2
 put-numbers-requires-2 c κs =
     let rows = rows-put (c .before) in
-    rw (rows-count rows .shown .ensures) (room-after _ (rows .put-numbers .ensures) (room-rows (number-put (before-rows rows))))
+    rw (rows-count rows .forces-shown .ensures) (room-after _ (rows .put-numbers .ensures) (room-rows (number-put (before-rows rows))))
 
 same-length : tie.Need-same-length
 same-length c = search needs
@@ -94,7 +94,7 @@ returns c =
     let rows = rows-put (before-forces forces) in
     let counted = rows-count rows in
     let args = start counted .args in
-    rw (opening-parts (args .number) (args .rows) (args .t5), ← counted .shown .ensures)
+    rw (opening-parts (args .number) (args .rows) (args .t5), ← counted .forces-shown .ensures)
     (put-both (number-put (before-rows rows) .put-number .ensures)
     (put-both (rows .put-numbers .ensures) (forces .put-numbers2 .ensures)))
 
@@ -102,7 +102,7 @@ pub put-rows-spec : {M : Type 1} → statement M
 put-rows-spec =
     tie.close
     (tie.spec
-    shown-requires
+    forces-shown-requires
     put-number-requires
     slice-aggregate-put-numbers
     put-numbers-requires

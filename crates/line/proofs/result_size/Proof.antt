@@ -2,6 +2,7 @@
 use Prim.Native.Nat.{_+_, _≤_}
 use mathlib.Core.Path.{_≡_}
 use lib.ListN.{length}
+use Rattle.line.specs.Longest.{mostLine}
 use Rattle.line.specs.Line.{resultLine}
 use Rattle.line.proofs.Lines.{result-size, result-short}
 use native.Mathlib.Omega.{arith}
@@ -32,7 +33,7 @@ rows-size-requires : tie.Need-rows-size-requires
 rows-size-requires c κs = search needs
 
 -- the first two parts are no longer than the line
-two-parts : (c : tie.After-rows-size) → c .before .digit-count .result + c .rows-size .result ≤ 283
+two-parts : (c : tie.After-rows-size) → c .before .digit-count .result + c .rows-size .result ≤ mostLine
 two-parts c =
     let args = start c .args in
     omega (

@@ -22,8 +22,8 @@ count-measured c = c .before .before
 
 -- ---- the needs
 
-shown-requires : tie.Need-shown-requires
-shown-requires c κs = search needs
+forces-shown-requires : tie.Need-forces-shown-requires
+forces-shown-requires c κs = search needs
 
 digit-count-requires : tie.Need-digit-count-requires
 digit-count-requires c κs = search needs
@@ -38,13 +38,13 @@ slice-aggregate-numbers-size : tie.Need-slice-aggregate-numbers-size
 slice-aggregate-numbers-size c = sym (length-take-le _ _ (omega arith))
 
 numbers-size-requires : tie.Need-numbers-size-requires
-numbers-size-requires c κs = omega (arith, length-take (c .before .before .shown .result) (start (c .before) .args .t2))
+numbers-size-requires c κs = omega (arith, length-take (c .before .before .forces-shown .result) (start (c .before) .args .t2))
 
 add-result-2 : tie.Need-add-result-2
 add-result-2 c =
     let counted = count-measured c in
     let args = start counted .args in
-    let count = counted .before .shown .result in
+    let count = counted .before .forces-shown .result in
     omega (
       arith,
       decimal-short (args .rows),
@@ -58,7 +58,7 @@ returns : tie.Need-returns
 returns c =
     let counted = count-measured c in
     let args = start counted .args in
-    let forces = ap (λ (count : ℕ). length (items decimal (take count (args .t2)))) (counted .before .shown .ensures) in
+    let forces = ap (λ (count : ℕ). length (items decimal (take count (args .t2)))) (counted .before .forces-shown .ensures) in
     omega (
       arith,
       items-first decimal (args .rows) (rowForces (args .rows) (args .t2)),
@@ -70,7 +70,7 @@ pub rows-size-spec : {M : Type 1} → statement M
 rows-size-spec =
     tie.close
     (tie.spec
-    shown-requires
+    forces-shown-requires
     digit-count-requires
     add-result
     array-share-prefix-forces

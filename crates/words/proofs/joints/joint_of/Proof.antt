@@ -4,8 +4,8 @@ use borrow.Author.Needs.{needs}
 use Rattle.words.proofs.joints.joint_of.Statement.{statement}
 use Rattle.words.proofs.joints.joint_of.Tie as tie
 
-fields-of-requires : tie.Need-fields-of-requires
-fields-of-requires c κs = search needs
+file-fields-of-requires : tie.Need-file-fields-of-requires
+file-fields-of-requires c κs = search needs
 
 levers-of-requires : tie.Need-levers-of-requires
 levers-of-requires c κs = search needs
@@ -14,7 +14,7 @@ joint-of-requires : tie.Need-joint-of-requires
 joint-of-requires c κs = search needs
 
 returns : tie.Need-returns
-returns c = c .joint-of .ensures ∙ rw (c .before .before .fields-of .ensures, c .before .levers-of .ensures)
+returns c = c .joint-of .ensures ∙ rw (c .before .before .file-fields-of .ensures, c .before .levers-of .ensures)
 
 pub joint-of-spec : {M : Type 1} → statement M
-joint-of-spec = tie.close (tie.spec fields-of-requires levers-of-requires joint-of-requires returns)
+joint-of-spec = tie.close (tie.spec file-fields-of-requires levers-of-requires joint-of-requires returns)

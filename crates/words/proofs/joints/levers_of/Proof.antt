@@ -1,9 +1,10 @@
--- `joints::levers_of` meets its contract: the words from the thirtieth on take the place of the zeros. Assumes nothing.
+-- `joints::levers_of` meets its contract: the words after those of the fields take the place of the zeros. Assumes nothing.
 use mathlib.Core.Path.{_≡_, _∙_}
 use native.Mathlib.Omega.{arith}
 use denote.Ref.{now}
 use lib.ListN.{length, take, drop, length-drop}
 use lib.Seq.{length-take-le}
+use Rattle.fields.specs.Fields.{fieldCount}
 use Rattle.words.specs.Words.{leversOfWords}
 use Rattle.words.proofs.Copies.{copied-over}
 use borrow.Author.Needs.{needs}
@@ -25,10 +26,10 @@ part-put-u32-start c = search needs
 part-put-u32-end : tie.Need-part-put-u32-end
 part-put-u32-end c = search needs
 
-eight : (c : tie.After-put-u32-arg) → length (take 8 (drop 29 (now (start c .args .words)))) ≡ 8
+eight : (c : tie.After-put-u32-arg) → length (take 8 (drop fieldCount (now (start c .args .words)))) ≡ 8
 eight c =
     let words = now (start c .args .words) in
-    length-take-le 8 (drop 29 words) (omega (arith, length-drop 29 words, start c .pre))
+    length-take-le 8 (drop fieldCount words) (omega (arith, length-drop fieldCount words, start c .pre))
 
 put-u32-requires : tie.Need-put-u32-requires
 put-u32-requires c κs = omega (arith, eight c)

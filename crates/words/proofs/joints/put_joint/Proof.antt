@@ -7,7 +7,7 @@ use denote.Ref.{now}
 use lib.ListN.{length}
 use lib.Seq.{sets}
 use Rattle.joint.specs.declared.Joint.{Joint}
-use Rattle.fields.specs.Fields.{fieldsOf}
+use Rattle.fields.specs.Fields.{fieldCount, fieldsOf}
 use Rattle.words.specs.Words.{headOf}
 use Rattle.words.proofs.Copies.{copied-after}
 use borrow.Author.Needs.{needs}
@@ -27,7 +27,7 @@ head-put c = c .before .before .before
 
 -- ---- the needs
 
-head-length : (joint : Joint) → length (headOf joint) ≡ 29
+head-length : (joint : Joint) → length (headOf joint) ≡ fieldCount
 unfolding headOf fieldsOf
 head-length joint = refl
 
@@ -56,7 +56,8 @@ returns c =
     let joint = args .joint in
     let words = now (args .words) in
     levers .put-eight-u32 .ensures .1
-    ∙ ap (λ (slice : List ℕ). sets slice 29 (joint .face .levers)) (head .put-u32 .ensures ∙ ap (sets words 0) (known .head-of .ensures))
+    ∙ ap (λ (slice : List ℕ). sets slice fieldCount (joint .face .levers))
+    (head .put-u32 .ensures ∙ ap (sets words 0) (known .head-of .ensures))
     ∙ copied-after words (headOf joint) (joint .face .levers) (head-length joint) (omega (arith, levers .put-eight-u32 .ensures .0))
 
 pub put-joint-spec : {M : Type 1} → statement M

@@ -7,7 +7,7 @@ use denote.Ref.{now}
 use lib.ListN.{length}
 use lib.Seq.{sets}
 use Rattle.outcome.specs.declared.FaceResult.{FaceResult}
-use Rattle.words.specs.Results.{figureWords}
+use Rattle.words.specs.Results.{figureWordCount, figureWords}
 use Rattle.words.proofs.Copies.{copied-after}
 use borrow.Author.Needs.{needs}
 use Rattle.words.proofs.results.put_result.Statement.{statement}
@@ -23,7 +23,7 @@ forces-put c = c .before .before .before
 
 -- ---- the needs
 
-figures-length : (result : FaceResult) → length (figureWords result) ≡ 9
+figures-length : (result : FaceResult) → length (figureWords result) ≡ figureWordCount
 unfolding figureWords
 figures-length result = refl
 

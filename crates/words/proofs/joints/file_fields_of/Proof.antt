@@ -1,15 +1,16 @@
--- `joints::fields_of` meets its contract: the first 29 words take the place of the zeros, and N's becomes what the file stores.
+-- `joints::file_fields_of` meets its contract: the words of the fields take the place of the zeros, and N's becomes what the file stores.
 -- Assumes nothing.
 use mathlib.Core.Path.{_≡_, sym, _∙_}
 use native.Mathlib.Omega.{arith}
 use denote.Ref.{now}
 use lib.ListN.{length, take}
 use lib.Seq.{length-take-le}
+use Rattle.fields.specs.Fields.{fieldCount}
 use Rattle.words.specs.Words.{fieldsOfWords}
 use Rattle.words.proofs.Copies.{copied-over}
 use borrow.Author.Needs.{needs}
-use Rattle.words.proofs.joints.fields_of.Statement.{statement}
-use Rattle.words.proofs.joints.fields_of.Tie as tie
+use Rattle.words.proofs.joints.file_fields_of.Statement.{statement}
+use Rattle.words.proofs.joints.file_fields_of.Tie as tie
 
 -- ---- the places of the walk, each a step from the one before it
 
@@ -24,8 +25,8 @@ copied c = c .before .before .before
 slice-aggregate-put-u32 : tie.Need-slice-aggregate-put-u32
 slice-aggregate-put-u32 c = search needs
 
-some : (c : tie.After-put-u32-arg) → length (take 29 (now (start c .args .words))) ≡ 29
-some c = length-take-le 29 (now (start c .args .words)) (omega (arith, start c .pre))
+some : (c : tie.After-put-u32-arg) → length (take fieldCount (now (start c .args .words))) ≡ fieldCount
+some c = length-take-le fieldCount (now (start c .args .words)) (omega (arith, start c .pre))
 
 slice-aggregate-put-u32-2 : tie.Need-slice-aggregate-put-u32-2
 slice-aggregate-put-u32-2 c = sym (some c)
@@ -47,11 +48,11 @@ unfolding fieldsOfWords
 returns c =
     let put = copied c in
     let words = now (start (put .before) .args .words) in
-    let all : put .put-u32 .last .0 ≡ take 29 words = put .put-u32 .ensures ∙ copied-over _ (take 29 words) (some (put .before)) in
+    let all : put .put-u32 .last .0 ≡ take fieldCount words = put .put-u32 .ensures ∙ copied-over _ _ (some (put .before)) in
     rw (all, c .stored-of .ensures)
 
-pub fields-of-spec : {M : Type 1} → statement M
-fields-of-spec =
+pub file-fields-of-spec : {M : Type 1} → statement M
+file-fields-of-spec =
     tie.close
     (tie.spec
     slice-aggregate-put-u32
