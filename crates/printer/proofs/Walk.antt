@@ -37,8 +37,7 @@ lines-same (suc most) (suc most′) number (byte ∷ bytes) h h′ =
         → lineThen (linesWithin most (number + 1)) number parse ≡ lineThen (linesWithin most′ (number + 1)) number parse
     go same (got joint left) e =
         let shorter = joint-shorter (byte ∷ bytes) joint left e in
-        ap (λ (lines : List Line). jointLine number joint ∷ lines)
-        (same left (omega arith) (omega arith))
+        rw (same left (omega arith) (omega arith))
     go same (refused r) e = refl
 
 pub lines-none : (number : ℕ) → linesOf number [] ≡ []
