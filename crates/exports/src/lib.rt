@@ -1,5 +1,5 @@
-// The calls as C and Rust see them: over numbers and lent slices. A joint is 37 words of 32 bits, document 01's fields in file order
-// with spare levers; N is its two's complement. A face's result is 17 words of 64 bits.
+// The calls as C and Rust see them: over numbers and lent slices. A joint is `JOINT_WORDS` words of 32 bits, document 01's fields in file
+// order and all eight levers; N is its two's complement. A face's result is `RESULT_WORDS` words of 64 bits.
 //
 // An answer tells all of a refusal in its parts: document 01's number in the lowest 8 bits, and the field, for 10, times 256. 0 is no
 // refusal; 100 says that a lent slice is too short to hold a joint or a result, and 101, of the sheet alone, that the output has no room

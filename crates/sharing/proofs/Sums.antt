@@ -40,9 +40,9 @@ module _ (limit : Table) (n : ℕ) where
       (le-suc-iff .0 h)
 
   -- what rows i to k − 1 have got
-  pub got : (k i : ℕ) → i ≤ k → sumDownTo limit n i + total (drop i (forcesDownTo limit n k)) ≡ sumDownTo limit n k
+  sum-between : (k i : ℕ) → i ≤ k → sumDownTo limit n i + total (drop i (forcesDownTo limit n k)) ≡ sumDownTo limit n k
   unfolding sumDownTo
-  got k i h = ap (λ xs. total xs + total (drop i (forcesDownTo limit n k))) (sym (take-forces k i h)) ∙ total-cut i _
+  sum-between k i h = ap (λ xs. total xs + total (drop i (forcesDownTo limit n k))) (sym (take-forces k i h)) ∙ total-cut i _
 
   -- the force of the next row is at most what each group ending there allows, and nothing larger is
   next-le : (above : List ℕ) (i : ℕ) → i ≤ length above → nextForce limit n above ≤ lowered limit n i (length above) - total (drop i above)
@@ -63,7 +63,7 @@ module _ (limit : Table) (n : ℕ) where
   sum-le-from k i inside h fits =
       let above = forcesDownTo limit n k in
       let force = rw (length-forces k) at (next-le above i (rw (length-forces k) h)) in
-      omega (arith, sum-step k, got k i h)
+      omega (arith, sum-step k, sum-between k i h)
 
   pub sum-le : (k i : ℕ) → k < n → i ≤ k → sumDownTo limit n (suc k) ≤ sumDownTo limit n i + lowered limit n i k
   sum-le zero i inside h = let top : i ≡ 0 = omega arith in sum-le-from 0 i inside h (rw top (omega arith))
@@ -78,6 +78,6 @@ module _ (limit : Table) (n : ℕ) where
   le-sum k x below =
       let above = forcesDownTo limit n k in
       let allowed : (i : ℕ) → i ≤ length above → x - sumDownTo limit n k ≤ lowered limit n i (length above) - total (drop i above)
-      = rw (length-forces k) (λ i h. let b = below i h in omega (arith, got k i h)) in
+      = rw (length-forces k) (λ i h. let b = below i h in omega (arith, sum-between k i h)) in
       let force = le-next above (x - sumDownTo limit n k) allowed in
       omega (arith, sum-step k)

@@ -1,7 +1,7 @@
 -- `allocate` meets its contract: each return is one case of the definition (the laws of `Answers`), and of whatever it
 -- answers, no refusal means the best forces. Assumes nothing.
 use mathlib.Core.Path.{_≡_, sym, _∙_}
-use mathlib.Core.Bool.{true, false}
+use mathlib.Core.Bool.{true}
 use Prim.Native.Nat.{_≤_}
 use native.Mathlib.Omega.{arith}
 use borrow.Author.Needs.{needs}

@@ -1,6 +1,5 @@
 -- `jinqewan_allocate` meets its contract: the slice is too short for eight forces, `allocate` refuses, or its forces are the slice's front,
 -- and the best there are. Assumes nothing.
-use Prim.Native.Nat.{ℕ}
 use mathlib.Core.Path.{_≡_, sym, ap, _∙_}
 use native.Mathlib.Omega.{arith}
 use borrow.Author.Tests.{lt-leb, le-leb}

@@ -1,6 +1,5 @@
 -- `jinqewan_work` meets its contract: a slice is too short, `work` refuses, or the words of its result are the front of the other slice,
 -- and demand 3 holds of them. Assumes nothing.
-use Prim.Native.Nat.{ℕ, _≤_}
 use mathlib.Core.Path.{_≡_, sym, ap, _∙_}
 use mathlib.Core.Bool.{true, _&&_}
 use native.Mathlib.Omega.{arith}

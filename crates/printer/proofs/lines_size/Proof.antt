@@ -1,6 +1,6 @@
 -- `lines_size` meets its contract: the loop's head is `WalkHead`, and a line that was measured carries it on. The measure is what is left
 -- of the input. Assumes nothing.
-use Prim.Native.Nat.{ℕ, _+_, _-_, _<_, _≤_}
+use Prim.Native.Nat.{ℕ, _+_, _-_, _<_}
 use mathlib.Core.Path.{_≡_, ap, _∙_}
 use mathlib.Core.List.{List}
 use borrow.Author.Needs.{needs}
