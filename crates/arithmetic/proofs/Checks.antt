@@ -7,7 +7,7 @@ use Prim.Native.Nat.{ℕ, zero, suc}
 use mathlib.Core.List.{List, [], _∷_, _++_}
 use lib.Dec.{T, eqb}
 use lib.ListN.{getD}
-use Rattle.arithmetic.specs.Checks.{Check, firstFailing}
+use Rattle.arithmetic.specs.Checks.{Check, firstFailing, checksBefore, checksFrom}
 
 module _ {A : Type 0} (passed : A) (failed : ℕ → A) where
   pub holds : (number : ℕ) (test : Bool) (checks : List Check) → test ≡ true
@@ -37,6 +37,17 @@ module _ {A : Type 0} (passed : A) (failed : ℕ → A) where
   unfolding firstFailing
   held number true checks answer e other = (refl, e)
   held number false checks answer e other = absurd (other e)
+
+-- the two parts of a list that is cut at a number are the list
+pub cut-at : (number : ℕ) (checks : List Check) → checksBefore number checks ++ checksFrom number checks ≡ checks
+unfolding checksBefore checksFrom
+cut-at number [] = refl
+cut-at number (check ∷ checks) = by-test (eqb number (check .0)) (cut-at number checks)
+  where
+    by-test : (here : Bool) → checksBefore number checks ++ checksFrom number checks ≡ checks
+        → cond here [] (check ∷ checksBefore number checks) ++ cond here (check ∷ checks) (checksFrom number checks) ≡ check ∷ checks
+    by-test true rest = refl
+    by-test false rest = ap (λ others. check ∷ others) rest
 
 -- what is made of the answer is made of each case
 pub of-each : {A B : Type 0} (f : A → B) (passed : A) (failed : ℕ → A) (checks : List Check)

@@ -28,7 +28,7 @@ use Rattle.verdicts.specs.Bolts.{bearing, idlePair, pullingPair, boltTotal, bol
 use Rattle.verdicts.specs.Welds.{topRows, flangeWeldBy, webWeldPasses}
 use Rattle.refusals.specs.Refusals.{leversFall, rowsInPlace, tooTight}
 use Rattle.work.specs.OneFace.{governingOf, capOf, forcesOf}
-use Rattle.work.specs.Work.{refusals as workRefusals, resultOf, workedFace, worked}
+use Rattle.work.specs.Work.{refusalsAfter10, resultOf, workedFace, worked}
 use Rattle.items.specs.Digits.{digits}
 use Rattle.items.specs.Items.{spaced}
 use Rattle.line.specs.Line.{resultLine, outcomeLine}
@@ -45,6 +45,6 @@ unfolding table firstFailing search-from leverChecks fixedChecks fieldChecks fie
     columnFlangeBending endPlateBending endPlateLimits columnWebTension beamWebLimits groupLimit
     bearingLength beamFlange webBearing bucklingLimit webBuckling panelShear resistancesOf lesser governingCheck tensionCap overCompressed
     carries bearing idlePair pullingPair boltTotal boltsPass topRows flangeWeldBy webWeldPasses leversFall rowsInPlace tooTight
-    governingOf capOf forcesOf workRefusals resultOf workedFace worked
+    governingOf capOf forcesOf refusalsAfter10 resultOf workedFace worked
     digits spaced resultLine outcomeLine linesWithin sheetLines concatenated
 all-agree = refl

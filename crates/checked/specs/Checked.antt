@@ -29,32 +29,32 @@ pub record Checked : Type 0 where
   pub stated : List ℕ
 
 -- Allocate's whole answer for n rows under a list of limits: the refusal, 0 for none, and all eight places
-answered : ℕ → List ℕ → List ℕ
-answered n limits = let answer = allocated n limits in answer .refusal ∷ answer .forces
+allocateAnswer : ℕ → List ℕ → List ℕ
+allocateAnswer n limits = let answer = allocated n limits in answer .refusal ∷ answer .forces
 
 -- A, in kilonewtons: the forces, and their moment with levers of 565, 465 and 375 millimetres
 limits-A : List ℕ
 limits-A = 371 ∷ 687 ∷ 974 ∷ 375 ∷ 679 ∷ 375 ∷ []
 
 checked-A : Checked
-unfolding answered limits-A
+unfolding allocateAnswer limits-A
 checked-A = record {
-  given = moment (565 ∷ 465 ∷ 375 ∷ []) (take 3 (allocated 3 limits-A .forces)) ∷ answered 3 limits-A;
+  given = moment (565 ∷ 465 ∷ 375 ∷ []) (take 3 (allocated 3 limits-A .forces)) ∷ allocateAnswer 3 limits-A;
   stated = 464180 ∷ 0 ∷ 371 ∷ 316 ∷ 287 ∷ 0 ∷ 0 ∷ 0 ∷ 0 ∷ 0 ∷ [];
 }
 
 -- B: A with 1–3 = 600
 checked-B : Checked
-unfolding answered
+unfolding allocateAnswer
 checked-B = record {
-  given = answered 3 (371 ∷ 687 ∷ 600 ∷ 375 ∷ 679 ∷ 375 ∷ []);
+  given = allocateAnswer 3 (371 ∷ 687 ∷ 600 ∷ 375 ∷ 679 ∷ 375 ∷ []);
   stated = 0 ∷ 371 ∷ 229 ∷ 0 ∷ 0 ∷ 0 ∷ 0 ∷ 0 ∷ 0 ∷ [];
 }
 
 -- C: limits 300, 200, 300 for two rows
 checked-C : Checked
-unfolding answered
-checked-C = record { given = answered 2 (300 ∷ 200 ∷ 300 ∷ []); stated = 0 ∷ 200 ∷ 0 ∷ 0 ∷ 0 ∷ 0 ∷ 0 ∷ 0 ∷ 0 ∷ [] }
+unfolding allocateAnswer
+checked-C = record { given = allocateAnswer 2 (300 ∷ 200 ∷ 300 ∷ []); stated = 0 ∷ 200 ∷ 0 ∷ 0 ∷ 0 ∷ 0 ∷ 0 ∷ 0 ∷ 0 ∷ [] }
 
 -- D: the bolts are class 88, M24, and Tc is 205: yc and W come of the definitions
 yc-D : ℕ

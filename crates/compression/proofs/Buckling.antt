@@ -18,7 +18,7 @@ use Rattle.compression.specs.declared.root.Root.{Root}
 use Rattle.compression.specs.declared.root.Root.the-variants.{Zero, Positive}
 use Rattle.strength.specs.InRange.{yieldStrengths}
 use Rattle.compression.specs.Compression.{IsWebBuckling, bucklingLimit, webBuckling}
-use Rattle.compression.specs.InRange.{bearingLengths, WebParts}
+use Rattle.compression.specs.InRange.{bearingLengths, ColumnWebParts}
 
 square : (t : ℕ) → t ^ 2 ≡ t * t
 square t = pow-suc t 1 ∙ ap (λ (s : ℕ). s * t) (pow-suc t 0 ∙ ap (λ (s : ℕ). s * t) (pow-zero t) ∙ one-mul t)
@@ -40,7 +40,7 @@ case-root x = either (eqb x 0) refl
     either true e = sym (ap squareRoot (eqb-true x 0 e) ∙ root-of-zero)
     either false e = refl
 
-module _ (b yc : ℕ) (column : Column) (r : WebParts b yc column) where
+module _ (b yc : ℕ) (column : Column) (r : ColumnWebParts b yc column) where
   -- the root of the limit over 16×dc, as the code works it
   pub buckling-root : (found : Root)
       → found ≡ rootCase (275 * b * yc * (column .web * column .web) * (column .web * column .web) / (16 * column .clear))

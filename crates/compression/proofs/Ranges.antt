@@ -12,7 +12,7 @@ use Rattle.strength.specs.Steel.{steelStrengths}
 use Rattle.strength.specs.declared.SteelStrengths.{SteelStrengths}
 use Rattle.strength.proofs.Ranges.{steel-in-range}
 use Rattle.compression.specs.Compression.{bearingLength, webBearing, resistancesOf}
-use Rattle.compression.specs.InRange.{bearingLengths, mostBearing, PartsInRange, WebParts}
+use Rattle.compression.specs.InRange.{bearingLengths, mostBearing, PartsInRange, ColumnWebParts}
 
 module _ (steel : SteelStrengths) (column : Column) (beam : Beam) (plate : Plate) (welds : Welds)
     (r : PartsInRange steel column beam plate welds) where
@@ -24,7 +24,7 @@ module _ (steel : SteelStrengths) (column : Column) (beam : Beam) (plate : Plate
       ⊕ exactly 2 ⊗ r .plate .thickness
       ⊕ exactly 5 ⊗ (r .column .flange ⊕ r .column .radius)
 
-  pub web-parts : WebParts (bearingLength column beam plate welds) (steel .column) column
+  pub web-parts : ColumnWebParts (bearingLength column beam plate welds) (steel .column) column
   web-parts = record { bearing-length = length-range; strength = r .steel .column; column = r .column }
 
   pub bearing-le : resistancesOf steel column beam plate welds .bearing ≤ mostBearing

@@ -34,7 +34,7 @@ pub record LengthParts (c : Column) (b : Beam) (p : Plate) (s : Welds) : Type 0 
   pub welds : WeldsInRange s
 
 -- what web bearing and web buckling are worked from: b, yc and the column
-pub record WebParts (b yc : ℕ) (c : Column) : Type 0 where
+pub record ColumnWebParts (b yc : ℕ) (c : Column) : Type 0 where
   pub bearing-length : Within bearingLengths b
   pub strength : Within yieldStrengths yc
   pub column : ColumnInRange c

@@ -4,7 +4,7 @@ ghost use Rattle.arithmetic.specs.Range.{Within};
 ghost use Rattle.joint.specs.InRange.{ColumnInRange, BeamInRange};
 ghost use Rattle.strength.specs.InRange.{yieldStrengths};
 ghost use Rattle.compression.specs.Compression.{bearingLength, beamFlange, webBearing, webBuckling, panelShear, resistancesOf};
-ghost use Rattle.compression.specs.InRange.{PartsInRange, LengthParts, WebParts};
+ghost use Rattle.compression.specs.InRange.{PartsInRange, LengthParts, ColumnWebParts};
 
 mod root;
 
@@ -67,7 +67,7 @@ fn beam_flange(strength: u64, beam: Beam) -> u64
 }
 
 fn web_bearing(length: u64, strength: u64, column: Column) -> u64
-    requires { ⌜ WebParts length strength column ⌝ }
+    requires { ⌜ ColumnWebParts length strength column ⌝ }
     ensures { λ r. ⌜ r ≡ webBearing length strength column ⌝ }
 {
     length * (column.web as u64) * strength / 100
@@ -75,7 +75,7 @@ fn web_bearing(length: u64, strength: u64, column: Column) -> u64
 
 // The root of the limit over 16×dc: its square times 16×dc is at most the limit, and no greater one's is.
 fn web_buckling(length: u64, strength: u64, column: Column) -> u64
-    requires { ⌜ WebParts length strength column ⌝ }
+    requires { ⌜ ColumnWebParts length strength column ⌝ }
     ensures { λ r. ⌜ r ≡ webBuckling length strength column ⌝ }
 {
     let web = column.web as u64;

@@ -32,7 +32,7 @@ use Rattle.outcome.specs.declared.FaceResult.{FaceResult}
 use Rattle.outcome.specs.declared.Outcome.{Outcome}
 use Rattle.outcome.specs.declared.Refusal.{Refusal}
 use Rattle.strength.specs.Bolt.{boltStrengths}
-use Rattle.work.specs.Work.{refusals, refusedBy, workedFace, workedBy, worked}
+use Rattle.work.specs.Work.{refusalsAfter10, refusedOutcome, workedFace, workedBy, worked}
 use Rattle.work.specs.Demand.{Demand3Of}
 use Rattle.printer.specs.Sheet.{sheetOf}
 use Rattle.printer.specs.Answers.{printing, printedMeaning}
@@ -147,9 +147,9 @@ field-small joint eight =
 
 face-small : (joint : Joint)
     → Small (workedFace (joint .column) (boltStrengths (joint .bolts)) (joint .face) .refusal)
-unfolding workedFace refusals allWithin
+unfolding workedFace refusalsAfter10 allWithin
 face-small joint =
-    by-number (λ (o : Outcome). Small (o .refusal)) 11 15 _ (λ number. refusedBy number 0) _ refl
+    by-number (λ (o : Outcome). Small (o .refusal)) 11 15 _ (λ number. refusedOutcome number 0) _ refl
     (record { number = omega arith; field = omega arith }) (λ number low high. record { number = high; field = omega arith })
 
 pub work-small : (joint : Joint) → length (joint .face .levers) ≡ 8 → Small (worked joint .refusal)

@@ -18,7 +18,7 @@ use Rattle.arithmetic.specs.Range.{Within, within, _to_}
 use Rattle.arithmetic.proofs.Checks.{all-hold}
 use Rattle.arithmetic.proofs.Bounds.{within-yes}
 use Rattle.joint.specs.Ranges.{rowCounts, flags, depths, widths, flanges, webs, radii, clears}
-use Rattle.joint.specs.Ranges.{plateWidths, thicknesses, gauges, edges, alphas, legs, weldLengths, shearRowCounts, loads, levers}
+use Rattle.joint.specs.Ranges.{plateWidths, thicknesses, gauges, edges, alphas, legs, weldLengths, shearRowCounts, loads, mostLever, levers}
 use Rattle.joint.specs.Fields.{fieldCheck, fieldChecks, fixedChecks, leverChecks, withinBothSigns}
 use Rattle.joint.specs.InRange.{InRange, FaceInRange}
 use Rattle.joint.specs.declared.Column.{Column}
@@ -118,17 +118,17 @@ module _ (column : Column) (bolts : Bolts) (face : Face) (found : fieldCheck col
 
 -- what a range that hangs on another field says where that field is known
 module _ (face : Face) (r : FaceInRange face) where
-  -- no lever is above 20000, and places past the last lever are 0
-  pub lever-most : (row : ℕ) → getD (face .levers) row 0 ≤ 20000
+  -- no lever is above the greatest, and places past the last lever are 0
+  pub lever-most : (row : ℕ) → getD (face .levers) row 0 ≤ mostLever
   lever-most row =
       elim (decLt row (length (face .levers))) [
         | yes h ↦ high (ltb row (face .rows)) (r .lever row h)
         | no h ↦ rw (List·getD-eq-default (face .levers) 0 {n = row} (omega arith)) zero-le
       ]
     where
-      high : (used : Bool) {x : ℕ} → Within (cond used (1 to 20000) (0 to 0)) x → x ≤ 20000
+      high : (used : Bool) {x : ℕ} → Within (cond used (1 to mostLever) (0 to 0)) x → x ≤ mostLever
       high true w = w .high
       high false w = omega (arith, w .high)
 
-  pub row-lever : (row : ℕ) → row < face .rows → row < length (face .levers) → Within (1 to 20000) (getD (face .levers) row 0)
+  pub row-lever : (row : ℕ) → row < face .rows → row < length (face .levers) → Within (1 to mostLever) (getD (face .levers) row 0)
   row-lever row used h = rw (lt-ltb row (face .rows) used) at (r .lever row h)

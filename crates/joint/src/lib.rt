@@ -119,7 +119,7 @@ pub enum AxialForce {
     Tension(u32),
 }
 
-// -1 - axial is not below 0 where axial is, and can't wrap.
+// N by its sign. Of an N below 0, -1 - N isn't below 0, and can't wrap.
 pub fn axial_force(axial: i32) -> AxialForce
     ensures { λ r. ⌜ r ≡ axialForce axial ⌝ }
 {
@@ -179,7 +179,7 @@ pub fn is_row_count(count: usize) -> bool
     (1 <= count) & (count <= 8)
 }
 
-// What was found before; else this field's number, unless it holds.
+// What was found before; if nothing, this field's number where its test fails.
 fn keep(found: FieldCheck, number: u32, holds: bool) -> FieldCheck
     ensures { λ r. ⌜ Adds found (number, holds) r ⌝ }
 {

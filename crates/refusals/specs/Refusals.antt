@@ -7,6 +7,7 @@ use lib.Dec.{ltb, eqb}
 use lib.ListN.{getD, take}
 use Rattle.arithmetic.specs.Table.{every}
 use Rattle.joint.specs.declared.Face.{Face}
+use Rattle.spacing.specs.Spacing.{leastDistance, leastEdge}
 use Rattle.spacing.specs.declared.Spacing.{Spacing}
 
 -- 11 'a lever not below the one above it' is what makes it false
@@ -30,7 +31,7 @@ rowsInPlace face =
 -- 13 'column m, plate m or (if extended) mx under 500, or either e under 1000'
 unfoldable pub tooTight : (extended : ℕ) → Spacing → Bool
 tooTight extended spacing =
-    ltb (spacing .column) 500
-    || (ltb (spacing .plate) 500
-    || ((eqb extended 1 && ltb (spacing .extension) 500)
-    || (ltb (spacing .«column_edge») 1000 || ltb (spacing .«plate_edge») 1000)))
+    ltb (spacing .column) leastDistance
+    || (ltb (spacing .plate) leastDistance
+    || ((eqb extended 1 && ltb (spacing .extension) leastDistance)
+    || (ltb (spacing .«column_edge») leastEdge || ltb (spacing .«plate_edge») leastEdge)))

@@ -4,14 +4,16 @@ ghost use mathlib.Core.Path.{_≡_};
 ghost use Prim.Native.Nat.{ℕ, _≤_};
 ghost use lib.ListN.{length, getD, take};
 ghost use Rattle.arithmetic.specs.Table.{every};
+ghost use Rattle.joint.specs.Ranges.{rowCounts, mostLever};
 ghost use Rattle.refusals.specs.Refusals.{belowAbove, inPlace, rowsInPlace, tooTight};
 ghost use Rattle.refusals.specs.Steps.{PlacesInRange};
 use joint::Face;
 use spacing::Spacing;
 
-// Every lever but the first is below the one above it. (A list of eight levers has eight: said for the caller's sake.)
+// Every lever but the first is below the one above it. That the array has eight levers is promised too: of an array that is a field the
+// caller doesn't know it.
 pub fn levers_fall(rows: usize, levers: [u32; 8]) -> bool
-    requires { ⌜ rows ≤ 8 ⌝ }
+    requires { ⌜ rows ≤ rowCounts .high ⌝ }
     ensures { λ r. ⌜ (r ≡ every (belowAbove levers) 0 (take rows levers)) × (length levers ≡ 8) ⌝ }
 {
     let mut row = 1;
@@ -43,7 +45,7 @@ pub fn rows_in_place(face: Face) -> bool
 
 // Twice each lever: over the one bound above the first row under the flange, under the other from there on.
 fn all_in_place(rows: usize, levers: [u32; 8], first: usize, over: u32, under: u32) -> bool
-    requires { ⌜ (rows ≤ 8) × ((k : ℕ) → getD levers k 0 ≤ 20000) ⌝ }
+    requires { ⌜ (rows ≤ rowCounts .high) × ((k : ℕ) → getD levers k 0 ≤ mostLever) ⌝ }
     ensures { λ r. ⌜ r ≡ every (inPlace first over under) 0 (take rows levers) ⌝ }
 {
     let mut row = 0;
@@ -57,7 +59,7 @@ fn all_in_place(rows: usize, levers: [u32; 8], first: usize, over: u32, under: u
 }
 
 fn is_in_place(row: usize, first: usize, over: u32, under: u32, lever: u32) -> bool
-    requires { ⌜ lever ≤ 20000 ⌝ }
+    requires { ⌜ lever ≤ mostLever ⌝ }
     ensures { λ r. ⌜ r ≡ inPlace first over under row lever ⌝ }
 {
     if row < first {

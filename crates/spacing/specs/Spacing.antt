@@ -1,5 +1,5 @@
 -- Distances about the bolts, in hundredths of a millimetre (document 01, 'Group limits' and refusal 13).
--- A difference below 0 is 0 here: refusal 13 turns both down, and where it lets a joint pass the two are the same.
+-- A difference below 0 is 0 here: refusal 13 turns a joint down for either, and where it lets one pass no difference is below 0.
 -- Assumes nothing.
 use Prim.Native.Nat.{ℕ, _+_, _-_, _*_}
 use lib.ListN.{getD}
@@ -7,6 +7,14 @@ use Rattle.joint.specs.declared.Column.{Column}
 use Rattle.joint.specs.declared.Layout.{Layout}
 use Rattle.joint.specs.declared.Face.{Face}
 use Rattle.spacing.specs.declared.Spacing.{Spacing}
+
+-- refusal 13: the least that m and mx may be
+abbrev pub leastDistance : ℕ
+leastDistance = 500
+
+-- and e
+abbrev pub leastEdge : ℕ
+leastEdge = 1000
 
 -- 'Column m = 5(g − tc) − 8rc'
 abbrev pub columnM : Column → Layout → ℕ

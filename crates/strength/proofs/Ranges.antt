@@ -23,7 +23,6 @@ use Rattle.strength.specs.InRange.{
   boltDiameters,
   boltBearings,
   ultimateStrengths,
-  steelBearings,
   weldStrengths,
   SteelInRange,
   BoltInRange,
@@ -92,10 +91,6 @@ steel-in-range column beam plate rc rb rp = record {
   beam = steel-range (beam .grade) (beam .flange) (rb .grade) (omega (arith, rb .flange .high));
   plate = steel-range (plate .grade) (plate .thickness) (rp .grade) (omega (arith, rp .thickness .high));
 }
-
-pub steel-bearing-range : (grade : ℕ) → T (oneOf grades grade) → Within steelBearings (steelBearing grade)
-unfolding steelBearing
-steel-bearing-range grade g = by-key steelBearings grades (460 ∷ 550 ∷ []) tt grade g
 
 -- whatever the grades
 pub weld-range : (beam plate : ℕ) → Within weldStrengths (weldStrength beam plate)

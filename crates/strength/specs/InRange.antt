@@ -32,9 +32,6 @@ boltBearings = 460 to 1300
 abbrev pub ultimateStrengths : Range
 ultimateStrengths = 400 to 1000
 
-abbrev pub steelBearings : Range
-steelBearings = 460 to 550
-
 -- pw
 abbrev pub weldStrengths : Range
 weldStrengths = 220 to 250

@@ -2,40 +2,42 @@
 -- Assumes nothing.
 use Prim.Native.Nat.{ℕ, _+_, _*_, _/_, _≤_}
 use Rattle.arithmetic.specs.Range.{Range, Within, _to_}
-use Rattle.joint.specs.Ranges.{rowCounts, flanges, webs, plateWidths, gauges, edges, alphas, levers}
+use Rattle.joint.specs.Ranges.{rowCounts, flanges, webs, plateWidths, gauges, edges, alphas, mostLever}
+use Rattle.spacing.specs.Spacing.{leastDistance, leastEdge}
 use Rattle.strength.specs.InRange.{yieldStrengths, mostThickness, mostPairTension}
 use Rattle.stubs.specs.declared.Stub.{Stub}
 use Rattle.stubs.specs.declared.Lengths.{Lengths}
 
--- the rows of a group, and its rise s, which is at most the lever of a first row
+-- the rows of a group, and its rise s, which is at most the greatest lever
 abbrev pub groupRows : Range
 groupRows = 0 to rowCounts .high
 
 abbrev pub rises : Range
-rises = 0 to levers 1 0 .high
+rises = 0 to mostLever
 
--- m of the column flange and the plate: refusal 13's 500, and half the gauge
+-- m of the column flange and the plate: from refusal 13's least to half the gauge
 abbrev pub boltDistances : Range
-boltDistances = 500 to 5 * gauges .high
+boltDistances = leastDistance to 5 * gauges .high
 
--- mx: 500 again, and the greatest lever with the thickest flange
+-- mx: from the same to the greatest lever with the thickest flange
 abbrev pub extensionDistances : Range
-extensionDistances = 500 to 5 * (2 * rises .high + flanges .high)
+extensionDistances = leastDistance to 5 * (2 * mostLever + flanges .high)
 
--- e: refusal 13's 1000, and half the width
+-- e: from refusal 13's least to half the width
 abbrev pub edgeDistances : Range
-edgeDistances = 1000 to 5 * plateWidths .high
+edgeDistances = leastEdge to 5 * plateWidths .high
 
--- no yield-line pattern of one row is longer, that by alpha the longest; and with the rise no effective length
+-- no yield-line pattern of one row is longer: the longest is that with alpha
 abbrev pub mostPattern : ℕ
 mostPattern = alphas .high * boltDistances .high / 100
 
+-- and no effective length of a group, which has the rise as well
 abbrev pub mostLength : ℕ
 mostLength = mostPattern + 20 * rises .high
 
 -- no 173g is above this, and no web's thickness times its strength
-abbrev pub mostWebGauge : ℕ
-mostWebGauge = 173 * gauges .high
+abbrev pub mostWebLength : ℕ
+mostWebLength = 173 * gauges .high
 
 abbrev pub mostWeb : ℕ
 mostWeb = webs .high * yieldStrengths .high
@@ -62,8 +64,8 @@ pub record ExtensionParts (mx edge e g bp : ℕ) : Type 0 where
   pub gauge : Within gauges g
   pub width : Within plateWidths bp
 
-pub record WebParts (gauge s web : ℕ) : Type 0 where
-  pub gauge-most : Within (0 to mostWebGauge) gauge
+pub record WebTensionParts (webLength s web : ℕ) : Type 0 where
+  pub length-most : Within (0 to mostWebLength) webLength
   pub rise : Within rises s
   pub web-most : Within (0 to mostWeb) web
 

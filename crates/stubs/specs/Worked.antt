@@ -19,5 +19,5 @@ unfoldable pub bendingBy : Stub → (W k L : ℕ) → ℕ
 bendingBy stub W k L =
     min (min (L * stub .flexure / stub .yielding) ((L * stub .flexure + k * stub .prying) / stub .breaking)) (k * W)
 
-abbrev pub webBy : (gauge s web : ℕ) → ℕ
-webBy gauge s web = (gauge + 100 * s) * web / 10000
+abbrev pub webBy : (webLength s web : ℕ) → ℕ
+webBy webLength s web = (webLength + 100 * s) * web / 10000

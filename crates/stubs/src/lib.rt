@@ -5,7 +5,7 @@ ghost use Prim.Native.Nat.{_*_, _/_, min};
 ghost use Rattle.arithmetic.specs.Range.{Within};
 ghost use Rattle.stubs.specs.Bending.{extensionLength};
 ghost use Rattle.stubs.specs.Worked.{stubOf, lengthsOf, lengthBy, bendingBy, webBy};
-ghost use Rattle.stubs.specs.InRange.{boltDistances, edgeDistances, StubParts, PatternParts, BendingParts, ExtensionParts, WebParts};
+ghost use Rattle.stubs.specs.InRange.{boltDistances, edgeDistances, StubParts, PatternParts, BendingParts, ExtensionParts, WebTensionParts};
 use arithmetic::least;
 
 // The column flange or the end plate as a T-stub: what of its bending is the same for every group.
@@ -80,22 +80,22 @@ pub fn extension_length(m: u64, edge: u32, plate_edge: u64, gauge: u32, width: u
     let half_circle = 6283 * m / 2000;
     let end = 10 * (edge as u64);
     let g = gauge as u64;
-    let corner = 2 * m + 5 * end / 8;
+    let half_end = 2 * m + 5 * end / 8;
     let circles = least(
         least(6283 * m / 1000, half_circle + 10 * g),
         half_circle + 2 * plate_edge,
     );
     let ends = least(
-        least(least(circles, 4 * m + 5 * end / 4), corner + plate_edge),
-        corner + 5 * g,
+        least(least(circles, 4 * m + 5 * end / 4), half_end + plate_edge),
+        half_end + 5 * g,
     );
     least(ends, 5 * (width as u64))
 }
 
 // A web's tension: 173g, the rise, and the web's thickness times its strength.
-pub fn web_tension(gauge: u64, rise: u64, web: u64) -> u64
-    requires { ⌜ WebParts gauge rise web ⌝ }
-    ensures { λ r. ⌜ r ≡ webBy gauge rise web ⌝ }
+pub fn web_tension(web_length: u64, rise: u64, web: u64) -> u64
+    requires { ⌜ WebTensionParts «web_length» rise web ⌝ }
+    ensures { λ r. ⌜ r ≡ webBy «web_length» rise web ⌝ }
 {
-    (gauge + 100 * rise) * web / 10000
+    (web_length + 100 * rise) * web / 10000
 }

@@ -13,7 +13,7 @@ use Rattle.arithmetic.proofs.Tests.{split}
 use Rattle.joint.specs.Ranges.{rowCounts}
 use Rattle.sharing.specs.Groups.{Table, groupsAbove, groupCount, listed, mostLimit}
 use Rattle.sharing.proofs.Places.{groups-inside, all-groups, group-count-le, one-group-a-place}
-use Rattle.tension.specs.Admissible.{tablePlaces, Filled}
+use Rattle.tension.specs.Admissible.{tablePlaces, TableFilled}
 
 -- How things stand when the groups before the one of rows i to j have their limits.
 pub record FilledTo (n : ℕ) (limit : Table) (entry table : List ℕ) (next i j : ℕ) : Type 0 where
@@ -106,7 +106,7 @@ module _ (n : ℕ) (limit : Table) (few : n ≤ rowCounts .high) (entry : List �
             untouched = untouched-after;
           })
 
-  pub finish : (table : List ℕ) (next i j : ℕ) → FilledTo n limit entry table next i j → n ≤ i → Filled n limit entry table
+  pub finish : (table : List ℕ) (next i j : ℕ) → FilledTo n limit entry table next i j → n ≤ i → TableFilled n limit entry table
   unfolding listed
   finish table next i j f past =
       let all : i ≡ n = omega (arith, f .rows) in
@@ -120,7 +120,7 @@ module _ (n : ℕ) (limit : Table) (few : n ≤ rowCounts .high) (entry : List �
       }
 
 -- where no place was above the greatest limit, none is: for Work, which lends zeros
-pub none-above : {n : ℕ} {limit : Table} {entry exit : List ℕ} → Filled n limit entry exit
+pub none-above : {n : ℕ} {limit : Table} {entry exit : List ℕ} → TableFilled n limit entry exit
     → ((k : ℕ) → getD entry k 0 ≤ mostLimit) → (k : ℕ) → getD exit k 0 ≤ mostLimit
 none-above {n} f small k =
     ⊎-elim (λ of-a-group. f .bounded k of-a-group) (λ past. omega (arith, f .untouched k past, small k)) (split k (groupCount n))

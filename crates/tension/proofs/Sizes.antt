@@ -25,7 +25,7 @@ use Rattle.stubs.specs.InRange.{
   extensionDistances,
   edgeDistances,
   mostPattern,
-  mostWebGauge,
+  mostWebLength,
   mostWeb,
   StubParts,
   ExtensionParts,
@@ -33,7 +33,7 @@ use Rattle.stubs.specs.InRange.{
 use Rattle.stubs.proofs.Sizes.{stub-within, lengths-within}
 use Rattle.tension.specs.Dimensions.{dimensionsOf, plateSideBy}
 use Rattle.tension.specs.InRange.{DimensionsWithin}
-use Rattle.tension.specs.Admissible.{Admissible, Measured, ExtensionMeasured, Levers}
+use Rattle.tension.specs.Admissible.{Admissible, FiguresGiven, ExtensionFigures, Levers}
 use Rattle.tension.specs.declared.Dimensions.{Dimensions}
 
 pub plate-side-le : (d : Dimensions) → DimensionsWithin d → (i : ℕ) → plateSideBy d i ≤ mostPattern
@@ -71,7 +71,7 @@ module _ (column : Column) (face : Face) (a : Admissible column face) where
         strengths = steel-in-range column (face .beam) (face .plate) (a .column) (f .beam) (f .plate);
       }
 
-  module _ (spacing : Spacing) (steel : SteelStrengths) (W : ℕ) (m : Measured column face spacing steel W) where
+  module _ (spacing : Spacing) (steel : SteelStrengths) (W : ℕ) (m : FiguresGiven column face spacing steel W) where
     pub sizes : Sizes spacing steel
     sizes = rw (m .distances, m .strengths) own-sizes
 
@@ -97,8 +97,8 @@ module _ (column : Column) (face : Face) (a : Admissible column face) where
           pair = m .pair;
         }
 
-    pub extension-measured : ExtensionMeasured face (spacing .extension) (spacing .«plate_edge») (steel .plate) W
-    extension-measured =
+    pub extension-figures : ExtensionFigures face (spacing .extension) (spacing .«plate_edge») (steel .plate) W
+    extension-figures =
         rw (m .distances, m .strengths)
         (record {
           face = a .face;
@@ -113,7 +113,7 @@ module _ (column : Column) (face : Face) (a : Admissible column face) where
   pub dimensions-within : (W : ℕ) → Within (0 to mostPairTension) W → DimensionsWithin (dimensionsOf column face W)
   unfolding dimensionsOf
   dimensions-within W pair =
-      let own : Measured column face (spacingOf column face) (steelStrengths column (face .beam) (face .plate)) W
+      let own : FiguresGiven column face (spacingOf column face) (steelStrengths column (face .beam) (face .plate)) W
       = record { distances = refl; strengths = refl; pair = pair } in
       let s = own-sizes in
       let both = le-trans (min-le-left _ _) (s .column-edge .high) in
@@ -123,14 +123,14 @@ module _ (column : Column) (face : Face) (a : Admissible column face) where
         column-lengths = lengths-within _ _ (s .column) (s .column-edge);
         plate-lengths = lengths-within _ _ (s .plate) (s .plate-edge);
         near-flange = loosen (0 to mostPattern) (a .face .layout .alpha ⊗ s .plate ⊘ 100) tt;
-        gauge = loosen (0 to mostWebGauge) (exactly 173 ⊗ a .face .layout .gauge) tt;
+        web-length = loosen (0 to mostWebLength) (exactly 173 ⊗ a .face .layout .gauge) tt;
         column-web = loosen (0 to mostWeb) (a .column .web ⊗ s .strengths .column) tt;
         beam-web = loosen (0 to mostWeb) (a .face .beam .web ⊗ s .strengths .beam) tt;
         pair = pair;
       }
 
 -- The extension row's figures, where there is one.
-module _ (face : Face) (mx e yp W : ℕ) (x : ExtensionMeasured face mx e yp W) where
+module _ (face : Face) (mx e yp W : ℕ) (x : ExtensionFigures face mx e yp W) where
   pub edge-field-le : face .layout .edge ≤ edges 1 .high
   edge-field-le = high (eqb (face .extended) 0) (x .face .layout .edge)
     where

@@ -34,7 +34,7 @@ use Rattle.tension.specs.Limits.{
 }
 use Rattle.tension.specs.Dimensions.{dimensionsOf, columnBy, plateSideBy, plateBy, websBy, limitBy, limitsBy}
 use Rattle.tension.specs.InRange.{DimensionsWithin}
-use Rattle.tension.specs.Admissible.{Measured, ExtensionMeasured}
+use Rattle.tension.specs.Admissible.{FiguresGiven, ExtensionFigures}
 use Rattle.tension.specs.declared.Dimensions.{Dimensions}
 
 -- the limits that apply, counted one after the other
@@ -85,14 +85,14 @@ module _ (column : Column) (face : Face) (W i j : ℕ) where
       let alone = eqb (rowsIn i j) 1 in
       let below = ltb (face .extended) i in
       let web = web-worked (face .layout .gauge) (rise face i j) in
-      (λ t. counted above alone below (column-worked t) (d .extension) (plate-worked t)
+      (λ t. counted above alone below (column-worked t) (d .«extension_limit») (plate-worked t)
       (web (column .web) (steelStrength (column .grade) (column .flange)) t)
       (web (face .beam .web) (steelStrength (face .beam .grade) (face .beam .flange)) t))
       ∙ extension-counts (face .extended) i (extensionBending face W) above refl alone below _ _ _ _
       ∙ in-order above alone below _ _ _ _ _
 
 -- The figures of a face as measured are the definitions'.
-module _ (column : Column) (face : Face) (spacing : Spacing) (steel : SteelStrengths) (W : ℕ) (m : Measured column face spacing steel W)
+module _ (column : Column) (face : Face) (spacing : Spacing) (steel : SteelStrengths) (W : ℕ) (m : FiguresGiven column face spacing steel W)
     (edge : ℕ) (both : edge ≡ min (spacing .«column_edge») (spacing .«plate_edge»)) where
   pub column-stub : stubOf (spacing .column) (min edge (5 * spacing .column / 4)) (column .flange) (steel .column) W
       ≡ dimensionsOf column face W .column
@@ -105,7 +105,7 @@ module _ (column : Column) (face : Face) (spacing : Spacing) (steel : SteelStren
   plate-stub = rw (both, m .distances, m .strengths)
 
 -- the extension row's limit, from its stub and its length
-module _ (face : Face) (mx e yp W : ℕ) (x : ExtensionMeasured face mx e yp W) where
+module _ (face : Face) (mx e yp W : ℕ) (x : ExtensionFigures face mx e yp W) where
   pub extension-worked : (end length limit : ℕ) (stub : Stub) → end ≡ face .layout .edge * 10
       → stub ≡ stubOf mx (min end (5 * mx / 4)) (face .plate .thickness) yp W
       → length ≡ extensionLength mx (face .layout .edge) e (face .layout .gauge) (face .plate .width)

@@ -32,8 +32,8 @@ dimensionsOf column face W =
       «column_lengths» = lengthsOf mc ec;
       «plate_lengths» = lengthsOf mp ep;
       «near_flange» = face .layout .alpha * mp / 100;
-      extension = cond (eqb (face .extended) 0) 0 (extensionBending face W);
-      gauge = 173 * g;
+      «extension_limit» = cond (eqb (face .extended) 0) 0 (extensionBending face W);
+      «web_length» = 173 * g;
       «column_web» = column .web * yc;
       «beam_web» = face .beam .web * yb;
       pair = W;
@@ -52,14 +52,14 @@ plateSideBy d i = cond (eqb i (d .first)) (d .«near_flange») (d .«plate_lengt
 unfoldable pub plateBy : Dimensions → (i k s limit : ℕ) → ℕ
 plateBy d i k s limit =
     cond (ltb i (d .first))
-    (cond (eqb k 1) (min limit (d .extension)) limit)
+    (cond (eqb k 1) (min limit (d .«extension_limit»)) limit)
     (min limit (bendingBy (d .plate) (d .pair) k (lengthBy (d .«plate_lengths» .circular) (plateSideBy d i) s)))
 
 -- and with the webs'
 unfoldable pub websBy : Dimensions → (i s limit : ℕ) → ℕ
 websBy d i s limit =
-    let web = min limit (webBy (d .gauge) s (d .«column_web»)) in
-    cond (ltb (d .first) i) (min web (webBy (d .gauge) s (d .«beam_web»))) web
+    let web = min limit (webBy (d .«web_length») s (d .«column_web»)) in
+    cond (ltb (d .first) i) (min web (webBy (d .«web_length») s (d .«beam_web»))) web
 
 -- the limit of the group of k rows from row i on, whose rise is s
 unfoldable pub limitBy : Dimensions → (i k s : ℕ) → ℕ

@@ -2,7 +2,7 @@
 use Prim.Native.Nat.{ℕ}
 use Rattle.arithmetic.specs.Range.{Within, _to_}
 use Rattle.strength.specs.InRange.{mostPairTension}
-use Rattle.stubs.specs.InRange.{groupRows, rises, mostPattern, mostWebGauge, mostWeb, StubWithin, LengthsWithin}
+use Rattle.stubs.specs.InRange.{groupRows, rises, mostPattern, mostWebLength, mostWeb, StubWithin, LengthsWithin}
 use Rattle.tension.specs.declared.Dimensions.{Dimensions}
 
 pub record DimensionsWithin (d : Dimensions) : Type 0 where
@@ -11,7 +11,7 @@ pub record DimensionsWithin (d : Dimensions) : Type 0 where
   pub column-lengths : LengthsWithin (d .«column_lengths»)
   pub plate-lengths : LengthsWithin (d .«plate_lengths»)
   pub near-flange : Within (0 to mostPattern) (d .«near_flange»)
-  pub gauge : Within (0 to mostWebGauge) (d .gauge)
+  pub web-length : Within (0 to mostWebLength) (d .«web_length»)
   pub column-web : Within (0 to mostWeb) (d .«column_web»)
   pub beam-web : Within (0 to mostWeb) (d .«beam_web»)
   pub pair : Within (0 to mostPairTension) (d .pair)

@@ -8,7 +8,7 @@ ghost use Rattle.arithmetic.specs.Range.{Within};
 ghost use Rattle.joint.specs.Ranges.{gauges};
 ghost use Rattle.stubs.specs.InRange.{boltDistances, rises};
 ghost use Rattle.tension.specs.Limits.{extensionBending, groupLimit};
-ghost use Rattle.tension.specs.Admissible.{Admissible, Measured, LimitsAsked, ExtensionMeasured, FillAsked, Filled};
+ghost use Rattle.tension.specs.Admissible.{Admissible, FiguresGiven, LimitsAsked, ExtensionFigures, FillAsked, TableFilled};
 ghost use Rattle.tension.specs.Dimensions.{columnBy, plateSideBy, plateBy, websBy, limitBy, limitsBy, dimensionsOf};
 ghost use Rattle.tension.specs.InRange.{DimensionsWithin, GroupInRange};
 use arithmetic::least;
@@ -34,9 +34,9 @@ pub struct Dimensions {
     // alpha×m÷100, in the place of the plate's side yielding next to the beam flange
     pub near_flange: u64,
     // the extension row's plate limit, 0 if flush
-    pub extension: u64,
-    // 173g
-    pub gauge: u64,
+    pub extension_limit: u64,
+    // 173g: the length of web that a row alone pulls on
+    pub web_length: u64,
     // tc×yc and tb×yb
     pub column_web: u64,
     pub beam_web: u64,
@@ -46,7 +46,7 @@ pub struct Dimensions {
     pub first: usize,
 }
 
-// A field times a figure.
+// A field, of 32 bits, times a figure of 64.
 fn times(a: u32, b: u64) -> u64
     requires { ⌜ (a ≤ gauges .high) × (b ≤ boltDistances .high) ⌝ }
     ensures { λ r. ⌜ r ≡ a * b ⌝ }
@@ -82,7 +82,7 @@ fn with_plate(d: Dimensions, row: usize, rows: u64, rise: u64, limit: u64) -> u6
 {
     if row < d.first {
         if rows == 1 {
-            return least(limit, d.extension);
+            return least(limit, d.extension_limit);
         }
         return limit;
     }
@@ -96,9 +96,9 @@ fn with_webs(d: Dimensions, row: usize, rise: u64, limit: u64) -> u64
     requires { ⌜ DimensionsWithin d × Within rises rise ⌝ }
     ensures { λ r. ⌜ r ≡ websBy d row rise limit ⌝ }
 {
-    let web = least(limit, web_tension(d.gauge, rise, d.column_web));
+    let web = least(limit, web_tension(d.web_length, rise, d.column_web));
     if d.first < row {
-        least(web, web_tension(d.gauge, rise, d.beam_web))
+        least(web, web_tension(d.web_length, rise, d.beam_web))
     } else {
         web
     }
@@ -125,7 +125,7 @@ pub fn group_limits(
     table: &mut [u64; 36],
 )
     requires { ⌜ LimitsAsked column face spacing steel pair (now table) ⌝ }
-    ensures { λ _. ⌜ Filled (face .rows) (groupLimit column face pair) (now (table .entry)) (now (table .exit)) ⌝ }
+    ensures { λ _. ⌜ TableFilled (face .rows) (groupLimit column face pair) (now (table .entry)) (now (table .exit)) ⌝ }
 {
     let d = dimensions_of(column, face, spacing, steel, pair);
     let levers = face.levers;
@@ -140,7 +140,7 @@ fn dimensions_of(
     steel: SteelStrengths,
     pair: u64,
 ) -> Dimensions
-    requires { ⌜ Admissible column face × Measured column face spacing steel pair ⌝ }
+    requires { ⌜ Admissible column face × FiguresGiven column face spacing steel pair ⌝ }
     ensures { λ r. ⌜ r ≡ dimensionsOf column face pair ⌝ }
 {
     let edge = least(spacing.column_edge, spacing.plate_edge);
@@ -150,14 +150,14 @@ fn dimensions_of(
         column_lengths: lengths_of(spacing.column, spacing.column_edge),
         plate_lengths: lengths_of(spacing.plate, spacing.plate_edge),
         near_flange: times(face.layout.alpha, spacing.plate) / 100,
-        extension: extension_limit(
+        extension_limit: extension_limit(
             face,
             spacing.extension,
             spacing.plate_edge,
             steel.plate,
             pair,
         ),
-        gauge: times(face.layout.gauge, 173),
+        web_length: times(face.layout.gauge, 173),
         column_web: times(column.web, steel.column),
         beam_web: times(face.beam.web, steel.beam),
         pair,
@@ -167,7 +167,7 @@ fn dimensions_of(
 
 // The plate limit of the extension row alone, 0 if flush: from mx, the plate's e and its strength.
 fn extension_limit(face: Face, m: u64, plate_edge: u64, strength: u64, pair: u64) -> u64
-    requires { ⌜ ExtensionMeasured face m «plate_edge» strength pair ⌝ }
+    requires { ⌜ ExtensionFigures face m «plate_edge» strength pair ⌝ }
     ensures { λ r. ⌜ r ≡ cond (eqb (face .extended) 0) 0 (extensionBending face pair) ⌝ }
 {
     let plate = face.plate;
@@ -184,7 +184,7 @@ fn extension_limit(face: Face, m: u64, plate_edge: u64, strength: u64, pair: u64
 // Every group's limit, row by row and from the shortest group to the longest.
 fn fill_limits(d: Dimensions, rows: usize, levers: [u32; 8], table: &mut [u64; 36])
     requires { ⌜ FillAsked d rows levers (now table) ⌝ }
-    ensures { λ _. ⌜ Filled rows (limitsBy d levers) (now (table .entry)) (now (table .exit)) ⌝ }
+    ensures { λ _. ⌜ TableFilled rows (limitsBy d levers) (now (table .entry)) (now (table .exit)) ⌝ }
 {
     let mut next = 0;
     let mut row = 0;

@@ -38,16 +38,16 @@ plus-le : (a m d c : ℕ) → leZ (pos a -ℤ negsuc m *ℤ pos d) (pos c) ≡ l
 plus-le a m d c = rw negℤ-negℤ
 
 module _ (loads : Loads) (beam : Beam) (z : ℕ) where
-  pub compressed : (n : ℕ) → axialForce (loads .axial) ≡ Compression n
+  pub carries-in-compression : (n : ℕ) → axialForce (loads .axial) ≡ Compression n
       → leb (20000 * loads .moment) (2 * z + n * (beam .depth - beam .flange)) ≡ carries loads beam z
   unfolding carries
-  compressed n e =
+  carries-in-compression n e =
       rw (is-compression (loads .axial) n e) (sym (less-le (20000 * loads .moment) (n * (beam .depth - beam .flange)) (2 * z)))
 
-  pub pulled : (n : ℕ) → axialForce (loads .axial) ≡ Tension n
+  pub carries-in-tension : (n : ℕ) → axialForce (loads .axial) ≡ Tension n
       → leb (20000 * loads .moment + n * (beam .depth - beam .flange)) (2 * z) ≡ carries loads beam z
   unfolding carries
-  pulled n e =
+  carries-in-tension n e =
       let m = is-tension (loads .axial) n e in
       ap (λ k. leb (20000 * loads .moment + k * (beam .depth - beam .flange)) (2 * z)) (m .1)
       ∙ sym (plus-le (20000 * loads .moment) (m .0) (beam .depth - beam .flange) (2 * z))

@@ -18,7 +18,8 @@ use Rattle.verdicts.specs.Bolts.{idlePair, pullingPair, boltTotal}
 use Rattle.joint.specs.declared.Column.{Column}
 use Rattle.joint.specs.declared.Plate.{Plate}
 use Rattle.strength.specs.declared.BoltStrengths.{BoltStrengths}
-use Rattle.verdicts.specs.Asked.{mostLever, mostRowMoment}
+use Rattle.joint.specs.Ranges.{mostLever}
+use Rattle.verdicts.specs.Asked.{mostRowMoment}
 
 moment-snoc : (levers forces : List ℕ) (h f : ℕ) → length levers ≡ length forces
     → moment (levers ++ (h ∷ [])) (forces ++ (f ∷ [])) ≡ moment levers forces + f * h

@@ -1,11 +1,12 @@
--- What each function asks of its arguments, and the bounds that it cites. Work has all of it from fields in range and from the limits.
+-- What each function requires of its arguments, and the bounds that it names. Work meets all of it: fields are in range, and no limit is
+-- above the greatest.
 -- Assumes nothing.
 use mathlib.Core.Path.{_≡_}
 use mathlib.Core.List.{List}
 use Prim.Native.Nat.{ℕ, _+_, _*_, _≤_}
 use lib.ListN.{getD}
 use Rattle.arithmetic.specs.Range.{Range, Within, _to_}
-use Rattle.joint.specs.Ranges.{rowCounts, shearRowCounts, weldLengths, legs, levers}
+use Rattle.joint.specs.Ranges.{rowCounts, shearRowCounts, weldLengths, legs, mostLever}
 use Rattle.joint.specs.InRange.{ColumnInRange, BeamInRange, PlateInRange, LoadsInRange, FaceInRange}
 use Rattle.joint.specs.declared.Column.{Column}
 use Rattle.joint.specs.declared.Beam.{Beam}
@@ -16,10 +17,6 @@ use Rattle.strength.specs.Steel.{steelStrength, weldStrength}
 use Rattle.strength.specs.InRange.{boltDiameters, boltBearings, weldStrengths, mostThickness, mostPairShear, BoltInRange}
 use Rattle.strength.specs.declared.BoltStrengths.{BoltStrengths}
 use Rattle.sharing.specs.Groups.{mostLimit}
-
--- no lever is above this: that of a first row
-abbrev pub mostLever : ℕ
-mostLever = levers 1 0 .high
 
 -- no row's force times its lever is above this, and so no Z of eight rows above the next
 abbrev pub mostRowMoment : ℕ

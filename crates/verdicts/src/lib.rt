@@ -47,7 +47,7 @@ pub fn tally_forces(rows: usize, levers: [u32; 8], forces: [u64; 8]) -> Tally
         let force = forces[row];
         sum += force;
         moment += force * (levers[row] as u64);
-        pulling += has_force(force);
+        pulling += force_count(force);
         row += 1;
     }
     Tally {
@@ -57,13 +57,13 @@ pub fn tally_forces(rows: usize, levers: [u32; 8], forces: [u64; 8]) -> Tally
     }
 }
 
-fn has_force(force: u64) -> u64
+fn force_count(force: u64) -> u64
     ensures { λ r. ⌜ r ≡ cond (eqb force 0) 0 1 ⌝ }
 {
     if force == 0 { 0 } else { 1 }
 }
 
-// Bending: what is asked of the moment is moved to the side where it isn't below 0.
+// Bending: N's term is added on the side on which it isn't below 0.
 pub fn carries_moment(loads: Loads, beam: Beam, moment: u64) -> bool
     requires { ⌜ BendingAsked loads beam moment ⌝ }
     ensures { λ r. ⌜ r ≡ carries loads beam moment ⌝ }

@@ -4,21 +4,21 @@ use mathlib.Core.Path.{_≡_, refl, sym, ap, _∙_}
 use mathlib.Core.Bool.{Bool, true, false, _&&_, _||_}
 use Prim.Native.Nat.{ℕ, suc}
 use native.Mathlib.Omega.{arith}
-use lib.ListN.{length, take}
+use lib.ListN.{length}
 use lib.Dec.{ltb}
 use borrow.Author.Tests.{ltb-false, eq-eqb, not-true}
-use Rattle.arithmetic.specs.Checks.{firstFailing}
+use Rattle.arithmetic.specs.Checks.{firstFailing, checksBefore}
 use Rattle.arithmetic.proofs.Checks.{numbered, positive, numbered-holds}
 use Rattle.joint.specs.InRange.{ColumnInRange, FaceInRange}
 use Rattle.joint.specs.declared.Column.{Column}
 use Rattle.joint.specs.declared.Face.{Face}
 use Rattle.strength.specs.declared.BoltStrengths.{BoltStrengths}
-use Rattle.spacing.specs.Spacing.{spacingOf}
+use Rattle.spacing.specs.Spacing.{leastDistance, leastEdge, spacingOf}
 use Rattle.tension.specs.Admissible.{Admissible}
 use Rattle.refusals.specs.Refusals.{leversFall, tooTight}
 use Rattle.refusals.proofs.Rows.{falls}
 use Rattle.outcome.specs.declared.Outcome.{Outcome}
-use Rattle.work.specs.Work.{refusedBy, refusals, completed, resultOf, workedFace, refusedFace}
+use Rattle.work.specs.Work.{refusedOutcome, refusalsAfter10, completed, resultOf, workedFace, refusedFace}
 use Rattle.work.specs.declared.Admission.the-variants.{Admitted, Refused}
 
 neither : (a b : Bool) → (a || b) ≡ false → (a ≡ false) × (b ≡ false)
@@ -39,34 +39,34 @@ admissible column face c f eight falling loose =
       column = c;
       face = f;
       falls = falls (face .levers) (face .rows) (omega (arith, eight, f .rows .high)) falling;
-      column-m = ltb-false _ 500 (past-column .0);
-      plate-m = ltb-false _ 500 (past-plate .0);
-      extension-m = λ extended. ltb-false _ 500 (ap (λ b. b && ltb mx 500) (sym (eq-eqb (face .extended) 1 extended)) ∙ past-extension .0);
-      column-edge = ltb-false _ 1000 (edges .0);
-      plate-edge = ltb-false _ 1000 (edges .1);
+      column-m = ltb-false _ leastDistance (past-column .0);
+      plate-m = ltb-false _ leastDistance (past-plate .0);
+      extension-m = λ extended. ltb-false _ leastDistance (ap (λ b. b && ltb mx leastDistance) (sym (eq-eqb (face .extended) 1 extended)) ∙ past-extension .0);
+      column-edge = ltb-false _ leastEdge (edges .0);
+      plate-edge = ltb-false _ leastEdge (edges .1);
     }
 
 -- the same of a face that is admitted
 pub admitted : (column : Column) (bolt : BoltStrengths) (face : Face) → ColumnInRange column → FaceInRange face → length (face .levers) ≡ 8
-    → firstFailing Admitted Refused (take 4 (refusals column bolt face)) ≡ Admitted → Admissible column face
-unfolding refusals numbered positive
+    → firstFailing Admitted Refused (checksBefore 15 (refusalsAfter10 column bolt face)) ≡ Admitted → Admissible column face
+unfolding refusalsAfter10 checksBefore numbered positive
 admitted column bolt face c f eight e =
-    let all = numbered-holds Admitted Refused Admitted apart (take 4 (refusals column bolt face)) tt e .0 in
+    let all = numbered-holds Admitted Refused Admitted apart (checksBefore 15 (refusalsAfter10 column bolt face)) tt e .0 in
     admissible column face c f eight (all 11) (not-true _ (all 13))
   where
     apart : (number : ℕ) → Refused (suc number) ≡ Admitted → ⊥
     apart number same = let never : _≡_ {A = ℕ} 0 1 = cc in absurd (omega arith)
 
 -- a refusal has its number
-pub refusal-is : (number field : ℕ) (answer : Outcome) → refusedBy number field ≡ answer → answer .refusal .number ≡ 0 → number ≡ 0
+pub refusal-is : (number field : ℕ) (answer : Outcome) → refusedOutcome number field ≡ answer → answer .refusal .number ≡ 0 → number ≡ 0
 refusal-is number field answer e none = ap (λ a. a .refusal .number) e ∙ none
 
 -- where a face is not refused every test holds, and the answer is the whole result
 pub not-refused : (column : Column) (bolt : BoltStrengths) (face : Face) (answer : Outcome) → workedFace column bolt face ≡ answer
     → answer .refusal .number ≡ 0
-    → ((number : ℕ) → numbered number (refusals column bolt face) ≡ true) × (completed (resultOf column bolt face) ≡ answer)
-unfolding workedFace refusals positive
+    → ((number : ℕ) → numbered number (refusalsAfter10 column bolt face) ≡ true) × (completed (resultOf column bolt face) ≡ answer)
+unfolding workedFace refusalsAfter10 positive
 not-refused column bolt face answer e none =
     numbered-holds (completed (resultOf column bolt face)) refusedFace answer
     (λ number refused. let never = refusal-is (suc number) 0 answer refused none in absurd (omega arith))
-    (refusals column bolt face) tt e
+    (refusalsAfter10 column bolt face) tt e

@@ -34,7 +34,7 @@ use Rattle.verdicts.specs.Bending.{carries}
 use Rattle.verdicts.proofs.Signs.{carries-monotone}
 use Rattle.outcome.specs.declared.Outcome.{Outcome}
 use Rattle.work.specs.OneFace.{rowsOf, leversOf, limitOf, capOf, forcesOf, carriesOf}
-use Rattle.work.specs.Work.{refusals, resultOf, workedFace, workedBy, worked}
+use Rattle.work.specs.Work.{refusalsAfter10, resultOf, workedFace, workedBy, worked}
 use Rattle.work.specs.Demand.{CompetesFor, Demand3, Demand3Of, programsList}
 use Rattle.work.proofs.Forces.{rows-kept}
 use Rattle.work.proofs.Answers.{admissible, refusal-is, not-refused}
@@ -48,8 +48,8 @@ module _ (column : Column) (bolt : BoltStrengths) (face : Face) (a : Admissible 
   limit : Table
   limit = limitOf column bolt face
 
-  capped : Table
-  capped = withCap (limitOf column bolt face) (rowsOf face) (newtonsOf (capOf column face))
+  limit-and-cap : Table
+  limit-and-cap = withCap (limitOf column bolt face) (rowsOf face) (newtonsOf (capOf column face))
 
   enough : rowsOf face ≤ length (face .levers)
   enough = omega (arith, eight, a .face .rows .high)
@@ -65,14 +65,14 @@ module _ (column : Column) (bolt : BoltStrengths) (face : Face) (a : Admissible 
       }
 
   -- a list competes under the limits with the cap exactly when it keeps the limits and the cap
-  under : (other : List ℕ) → CompetesFor column bolt face other → Competes capped (rowsOf face) other
-  unfolding capped
+  under : (other : List ℕ) → CompetesFor column bolt face other → Competes limit-and-cap (rowsOf face) other
+  unfolding limit-and-cap
   under other c =
       let kept = rw cap at (c .capped) in
       cap-is-a-limit (limitOf column bolt face) (rowsOf face) (newtonsOf (capOf column face)) other .1 (c .limits, leb→le _ _ (kept .le))
 
-  over : (other : List ℕ) → Competes capped (rowsOf face) other → CompetesFor column bolt face other
-  unfolding capped
+  over : (other : List ℕ) → Competes limit-and-cap (rowsOf face) other → CompetesFor column bolt face other
+  unfolding limit-and-cap
   over other c =
       let both = cap-is-a-limit (limitOf column bolt face) (rowsOf face) (newtonsOf (capOf column face)) other .0 c in
       record { limits = both .0; capped = rw cap (record { le = le→leb _ _ (both .1) }) }
@@ -82,9 +82,9 @@ module _ (column : Column) (bolt : BoltStrengths) (face : Face) (a : Admissible 
   unfolding resultOf forcesOf
   own = rows-kept (rowsOf face) (withCap (limitOf column bolt face) (rowsOf face) (newtonsOf (capOf column face)))
 
-  of-forces : (forces : List ℕ) → forcesOf column bolt face ≡ forces → Best capped (rowsOf face) forces
-  unfolding forcesOf capped
-  of-forces forces e = rw e at (best capped (rowsOf face))
+  of-forces : (forces : List ℕ) → forcesOf column bolt face ≡ forces → Best limit-and-cap (rowsOf face) forces
+  unfolding forcesOf limit-and-cap
+  of-forces forces e = rw e at (best limit-and-cap (rowsOf face))
 
   demand : Demand3 column bolt face (resultOf column bolt face .forces) (resultOf column bolt face .verdicts .bending)
   unfolding resultOf
@@ -107,7 +107,7 @@ module _ (column : Column) (bolt : BoltStrengths) (face : Face) (a : Admissible 
 of-face : (column : Column) (bolt : BoltStrengths) (face : Face) → ColumnInRange column → FaceInRange face → length (face .levers) ≡ 8
     → (answer : Outcome) → workedFace column bolt face ≡ answer → answer .refusal .number ≡ 0
     → Demand3 column bolt face (answer .result .forces) (answer .result .verdicts .bending)
-unfolding refusals numbered capOf
+unfolding refusalsAfter10 numbered capOf
 of-face column bolt face c f eight answer e none =
     let all = not-refused column bolt face answer e none in
     let a = admissible column face c f eight (all .0 11) (not-true _ (all .0 13)) in

@@ -2,7 +2,7 @@
 -- share alike. Group 1 to n has the n-th place, and no other group has it. Assumes nothing.
 use mathlib.Core.Path.{_≡_, refl, sym, ap, ap₂, _∙_}
 use mathlib.Core.Bool.{Bool, true, false, cond, _&&_}
-use Prim.Native.Nat.{ℕ, suc, _+_, _-_, _≤_, _<_, min}
+use Prim.Native.Nat.{ℕ, zero, suc, _+_, _-_, _≤_, _<_, min}
 use native.Mathlib.Omega.{arith}
 use mathlib.Core.List.{List}
 use lib.ListN.{length, getD, set, take, replicate, length-set}
@@ -15,10 +15,11 @@ use Rattle.sharing.specs.Sharing.{shared}
 use Rattle.sharing.proofs.Places.{group-count-le, groups-inside, one-group-a-place}
 use Rattle.sharing.proofs.Agreement.{shared-agrees}
 use Rattle.sharing.proofs.Theorems.{best}
+use Rattle.joint.specs.Ranges.{rowCounts}
 use Rattle.joint.specs.Places.{eightPlaces}
 use Rattle.allocation.specs.Steps.{Shareable}
-use Rattle.allocation.proofs.Rows.{force-le-most}
-use Rattle.tension.specs.Admissible.{Filled}
+use Rattle.tension.specs.Admissible.{tablePlaces, TableFilled}
+use Rattle.tension.proofs.Filling.{none-above}
 
 -- the places of the rows are the forces
 pub rows-kept : (n : ℕ) (limit : Table) → take n (eightPlaces (shared limit n)) ≡ shared limit n
@@ -26,7 +27,7 @@ unfolding eightPlaces
 rows-kept n limit =
     take-at (shared limit n) (replicate (8 - length (shared limit n)) 0) n (best limit n .competes .rows)
 
-module _ (n cap : ℕ) (limit : Table) (entry table : List ℕ) (filled : Filled n limit entry table) (some : 1 ≤ n) (few : n ≤ 8)
+module _ (n cap : ℕ) (limit : Table) (entry table : List ℕ) (filled : TableFilled n limit entry table) (some : 1 ≤ n) (few : n ≤ rowCounts .high)
     (stored : ℕ) (lower : stored ≡ min (getD table (n - 1) 0) cap) where
   -- the place of group 1 to n
   whole : groupsAbove n 0 + ((n - 1) - 0) ≡ n - 1
@@ -66,18 +67,19 @@ module _ (n cap : ℕ) (limit : Table) (entry table : List ℕ) (filled : Filled
   pub forces-agree : shared (listed n (set table (n - 1) stored)) n ≡ shared (withCap limit n cap) n
   forces-agree = shared-agrees _ _ n agrees
 
-  bounded : (k : ℕ) → k < groupCount n → getD (set table (n - 1) stored) k 0 ≤ mostLimit
-  bounded k h =
-      let own = filled .bounded (n - 1) (omega (arith, groups-inside n 0 (omega arith))) in
-      store-keeps mostLimit table (n - 1) stored k (filled .bounded k h) (omega (arith, lower))
+-- any table that has a place for each group of eight rows, and no limit too large, can be shared under
+pub shareable : (n : ℕ) (table : List ℕ) → n ≤ rowCounts .high → length table ≡ tablePlaces → ((k : ℕ) → getD table k 0 ≤ mostLimit)
+    → Shareable n table
+shareable n table few size small =
+    record { rows = few; enough = omega (arith, size, group-count-le n few); bounded = λ k h. small k }
 
-  pub shareable : Shareable n (set table (n - 1) stored)
-  shareable =
-      record {
-        rows = few;
-        enough = omega (arith, length-set table (n - 1) stored, filled .size, group-count-le n few);
-        bounded = bounded;
-      }
-
-  pub force-small : (k : ℕ) → getD (eightPlaces (shared (listed n (set table (n - 1) stored)) n)) k 0 ≤ mostLimit
-  force-small = force-le-most n (set table (n - 1) stored) shareable
+-- zeros that the limits were put into, with a number stored that is small too
+pub none-large : (n p places stored : ℕ) (limit : Table) (table : List ℕ) → TableFilled n limit (replicate places 0) table → stored ≤ mostLimit
+    → (k : ℕ) → getD (set table p stored) k 0 ≤ mostLimit
+none-large n p places stored limit table filled low k =
+    store-keeps mostLimit table p stored k (none-above filled (λ i. omega (arith, zeros places i)) k) low
+  where
+    zeros : (m i : ℕ) → getD (replicate m 0) i 0 ≡ 0
+    zeros zero i = refl
+    zeros (suc m) zero = refl
+    zeros (suc m) (suc i) = zeros m i

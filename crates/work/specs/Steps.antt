@@ -44,20 +44,20 @@ pub record AdmitAsked (c : Column) (b : BoltStrengths) (f : Face) (measures : Me
   pub measured : measures ≡ measuresOf c f
 
 -- A face that refusals 10, 11 and 13 let pass, with its distances and strengths.
-pub record Measured (c : Column) (b : BoltStrengths) (f : Face) (measures : Measures) : Type 0 where
+pub record AdmittedFace (c : Column) (b : BoltStrengths) (f : Face) (measures : Measures) : Type 0 where
   pub admissible : Admissible c f
   pub bolt : BoltInRange b
   pub measured : measures ≡ measuresOf c f
 
 -- The same with its governing check and its cap.
-pub record Capped (c : Column) (b : BoltStrengths) (f : Face) (measures : Measures) (check : CompressionCheck) (cap : ℕ) : Type 0 where
-  pub face-measured : Measured c b f measures
+pub record FaceWithCap (c : Column) (b : BoltStrengths) (f : Face) (measures : Measures) (check : CompressionCheck) (cap : ℕ) : Type 0 where
+  pub admitted-face : AdmittedFace c b f measures
   pub governs : check ≡ governingOf c f
   pub newtons : cap ≡ newtonsOf (capOf c f)
 
 -- A face with its forces in their eight places, none so large that a sum could not be held, and what they come to.
 pub record Tallied (c : Column) (b : BoltStrengths) (f : Face) (measures : Measures) (forces : List ℕ) (tally : Tally) : Type 0 where
-  pub face-measured : Measured c b f measures
+  pub admitted-face : AdmittedFace c b f measures
   pub places : forces ≡ eightPlaces (forcesOf c b f)
   pub bounded : (k : ℕ) → getD forces k 0 ≤ mostLimit
   pub tallied : tally ≡ tallyOf (leversOf f) (forcesOf c b f)

@@ -27,8 +27,8 @@ use Rattle.outcome.specs.declared.Outcome.{Outcome}
 
 -- 'In a refusal forces, sum, newton metres, cap and governing force are 0, the check named is F, verdicts are no, and the field
 -- number is 0 but for 10.'
-abbrev pub refusedBy : (number field : ℕ) → Outcome
-refusedBy number field = record {
+abbrev pub refusedOutcome : (number field : ℕ) → Outcome
+refusedOutcome number field = record {
   refusal = record { number = number; field = field };
   result = record {
     forces = replicate 8 0;
@@ -42,11 +42,11 @@ refusedBy number field = record {
 
 -- a refusal after 10
 abbrev pub refusedFace : (number : ℕ) → Outcome
-refusedFace number = refusedBy number 0
+refusedFace number = refusedOutcome number 0
 
 -- 'Tried in this order', after 10: each number with the test that lets a face pass.
-unfoldable pub refusals : Column → BoltStrengths → Face → List Check
-refusals column bolt face =
+unfoldable pub refusalsAfter10 : Column → BoltStrengths → Face → List Check
+refusalsAfter10 column bolt face =
     (11, leversFall face)
     ∷ (12, rowsInPlace face)
     ∷ (13, not (tooTight (face .extended) (spacingOf column face)))
@@ -72,14 +72,14 @@ completed result = record { refusal = record { number = 0; field = 0 }; result =
 
 -- A face whose fields are in range: the first refusal whose test fails, and else the result.
 unfoldable pub workedFace : Column → BoltStrengths → Face → Outcome
-unfolding refusals resultOf
+unfolding refusalsAfter10 resultOf
 workedFace column bolt face =
-    firstFailing (completed (resultOf column bolt face)) refusedFace (refusals column bolt face)
+    firstFailing (completed (resultOf column bolt face)) refusedFace (refusalsAfter10 column bolt face)
 
 -- '10 a field out of range, with the first such field's number'; then the face.
 abbrev pub workedBy : FieldCheck → Outcome → Outcome
 workedBy AllInRange outcome = outcome
-workedBy (Outside field) outcome = refusedBy 10 field
+workedBy (Outside field) outcome = refusedOutcome 10 field
 
 unfoldable pub worked : Joint → Outcome
 unfolding workedFace

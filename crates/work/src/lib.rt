@@ -2,17 +2,17 @@
 // verdicts. Rows count from 0.
 ghost use mathlib.Core.Path.{_≡_};
 ghost use Prim.Native.Nat.{ℕ, _≤_};
-ghost use lib.ListN.{length, getD, take, drop};
-ghost use Rattle.arithmetic.specs.Checks.{firstFailing};
+ghost use lib.ListN.{length, getD};
+ghost use Rattle.arithmetic.specs.Checks.{firstFailing, checksBefore, checksFrom};
 ghost use Rattle.joint.specs.Places.{eightPlaces};
 ghost use Rattle.compression.specs.InRange.{PartsInRange, mostBearing};
 ghost use Rattle.governing.specs.Governing.{forceOf};
 ghost use Rattle.sharing.specs.Groups.{withCap, mostLimit};
 ghost use Rattle.sharing.specs.Sharing.{shared};
 ghost use Rattle.work.specs.OneFace.{rowsOf, limitOf, steelOf, governingOf, forcesOf, verdictsOf};
-ghost use Rattle.work.specs.Work.{refusedBy, refusals, resultOf, completed, workedFace, worked, refusedFace};
+ghost use Rattle.work.specs.Work.{refusedOutcome, refusalsAfter10, resultOf, completed, workedFace, worked, refusedFace};
 ghost use Rattle.work.specs.Demand.{Demand3Of};
-ghost use Rattle.work.specs.Steps.{measuresOf, FaceAsked, AdmitAsked, Measured, Capped, Tallied};
+ghost use Rattle.work.specs.Steps.{measuresOf, FaceAsked, AdmitAsked, AdmittedFace, FaceWithCap, Tallied};
 ghost use Rattle.work.specs.declared.Admission.the-variants.{Admitted, Refused};
 use arithmetic::least;
 use governing::Cap;
@@ -60,7 +60,7 @@ pub fn work(joint: Joint) -> Outcome
 }
 
 fn refused(number: u32, field: u32) -> Outcome
-    ensures { λ r. ⌜ r ≡ refusedBy number field ⌝ }
+    ensures { λ r. ⌜ r ≡ refusedOutcome number field ⌝ }
 {
     Outcome {
         refusal: Refusal { number, field },
@@ -80,7 +80,7 @@ fn refused(number: u32, field: u32) -> Outcome
     }
 }
 
-// A face whose fields are in range. (A list of eight levers has eight: said for the caller's sake.)
+// A face whose fields are in range. That it has eight levers is promised too: of an array that is a field the caller doesn't know it.
 fn work_face(column: Column, bolt: BoltStrengths, face: Face) -> Outcome
     requires { ⌜ FaceAsked column bolt face ⌝ }
     ensures { λ r. ⌜ (r ≡ workedFace column bolt face) × (length (face .levers) ≡ 8) ⌝ }
@@ -102,10 +102,10 @@ fn measures_of(column: Column, face: Face) -> Measures
     }
 }
 
-// The first four refusals after 10.
+// The refusals between 10 and 15.
 fn admit(column: Column, bolt: BoltStrengths, face: Face, measures: Measures) -> Admission
     requires { ⌜ AdmitAsked column bolt face measures ⌝ }
-    ensures { λ r. ⌜ (r ≡ firstFailing Admitted Refused (take 4 (refusals column bolt face))) × (length (face .levers) ≡ 8) ⌝ }
+    ensures { λ r. ⌜ (r ≡ firstFailing Admitted Refused (checksBefore 15 (refusalsAfter10 column bolt face))) × (length (face .levers) ≡ 8) ⌝ }
 {
     let levers = face.levers;
     if !refusals::levers_fall(face.rows as usize, levers) {
@@ -123,14 +123,14 @@ fn admit(column: Column, bolt: BoltStrengths, face: Face, measures: Measures) ->
     Admission::Admitted
 }
 
-// A face that the first four let pass: the last is 15, where N leaves no cap.
+// A face that those let pass: refused by 15 where N leaves no cap, and else worked whole.
 fn work_admitted(column: Column, bolt: BoltStrengths, face: Face, measures: Measures) -> Outcome
-    requires { ⌜ Measured column bolt face measures ⌝ }
-    ensures { λ r. ⌜ r ≡ firstFailing (completed (resultOf column bolt face)) refusedFace (drop 4 (refusals column bolt face)) ⌝ }
+    requires { ⌜ AdmittedFace column bolt face measures ⌝ }
+    ensures { λ r. ⌜ r ≡ firstFailing (completed (resultOf column bolt face)) refusedFace (checksFrom 15 (refusalsAfter10 column bolt face)) ⌝ }
 {
     let check = governing_of(column, face, measures.steel);
-    let capped = governing::tension_cap(governing::force_of(check), face.loads);
-    let Cap::Newtons(cap) = capped else {
+    let cap_case = governing::tension_cap(governing::force_of(check), face.loads);
+    let Cap::Newtons(cap) = cap_case else {
         return refused(15, 0);
     };
     Outcome {
@@ -159,7 +159,7 @@ fn result_of(
     check: CompressionCheck,
     cap: u64,
 ) -> FaceResult
-    requires { ⌜ Capped column bolt face measures check cap ⌝ }
+    requires { ⌜ FaceWithCap column bolt face measures check cap ⌝ }
     ensures { λ r. ⌜ r ≡ resultOf column bolt face ⌝ }
 {
     let levers = face.levers;
@@ -183,7 +183,7 @@ fn row_forces(
     measures: Measures,
     cap: u64,
 ) -> [u64; 8]
-    requires { ⌜ Measured column bolt face measures ⌝ }
+    requires { ⌜ AdmittedFace column bolt face measures ⌝ }
     ensures { λ r. ⌜ r ≡ eightPlaces (shared (withCap (limitOf column bolt face) (rowsOf face) cap) (rowsOf face)) ⌝ }
     ensures { λ r. ⌜ ((k : ℕ) → getD r k 0 ≤ mostLimit) ⌝ }
 {

@@ -2,7 +2,7 @@
 -- Assumes nothing.
 use borrow.Author.Needs.{needs}
 use Rattle.compression.specs.Compression.{resistancesOf}
-use Rattle.compression.specs.InRange.{WebParts}
+use Rattle.compression.specs.InRange.{ColumnWebParts}
 use Rattle.compression.proofs.Ranges.{web-parts}
 use Rattle.compression.proofs.resistances_of.Statement.{statement}
 use Rattle.compression.proofs.resistances_of.Tie as tie
@@ -10,7 +10,7 @@ use Rattle.compression.proofs.resistances_of.Tie as tie
 -- ---- what the web's two checks ask, at the place where b is known
 
 web-at : (c : tie.After-bearing-length)
-    → WebParts (c .bearing-length .result) (c .before .args .steel .column) (c .before .args .column)
+    → ColumnWebParts (c .bearing-length .result) (c .before .args .steel .column) (c .before .args .column)
 web-at c =
     let a = c .before .args in
     rw (c .bearing-length .ensures) (web-parts (a .steel) (a .column) (a .beam) (a .plate) (a .welds) (c .before .pre))

@@ -9,7 +9,7 @@ use Rattle.arithmetic.proofs.Bounds.{exactly, _⊗_, fits}
 use Rattle.joint.specs.Ranges.{webs}
 use Rattle.joint.specs.declared.Column.{Column}
 use Rattle.compression.specs.Compression.{webBuckling}
-use Rattle.compression.specs.InRange.{WebParts}
+use Rattle.compression.specs.InRange.{ColumnWebParts}
 use Rattle.compression.specs.Root.{rootMeaning}
 use Rattle.compression.proofs.Buckling.{buckling-root}
 use Rattle.compression.proofs.web_buckling.Statement.{statement}
@@ -17,7 +17,7 @@ use Rattle.compression.proofs.web_buckling.Tie as tie
 
 -- ---- the products, as the ranges bound them
 
-squared : {b yc : ℕ} {column : Column} → WebParts b yc column
+squared : {b yc : ℕ} {column : Column} → ColumnWebParts b yc column
     → Within (webs .low * webs .low to webs .high * webs .high) (column .web * column .web)
 squared r = r .column .web ⊗ r .column .web
 

@@ -1,9 +1,9 @@
--- `tension_cap` meets its contract: the cap's cases by the sign of N (the laws of `Capped`). Assumes nothing.
+-- `tension_cap` meets its contract: the cap's cases by the sign of N (the laws of `CapBySign`). Assumes nothing.
 use mathlib.Core.Path.{_≡_}
 use Rattle.joint.specs.Axial.{axialForce}
 use Rattle.joint.proofs.Axial.{case-of}
 use Rattle.joint.specs.declared.AxialForce.the-variants.{Compression, Tension}
-use Rattle.governing.proofs.Capped.{exceeded, compressed, pulled}
+use Rattle.governing.proofs.CapBySign.{cap-exceeded, cap-in-compression, cap-in-tension}
 use borrow.Author.Needs.{needs}
 use Rattle.governing.proofs.tension_cap.Statement.{statement}
 use Rattle.governing.proofs.tension_cap.Tie as tie
@@ -55,17 +55,17 @@ add-t13 c = search needs
 returns : tie.Need-returns
 returns c =
     let a = from-compression (c .before) .args in
-    exceeded (a .loads) (a .force) _ (pushes (c .before)) (c .if1 .taken)
+    cap-exceeded (a .loads) (a .force) _ (pushes (c .before)) (c .if1 .taken)
 
 returns-2 : tie.Need-returns-2
 returns-2 c =
     let a = from-compression (c .before) .args in
-    compressed (a .loads) (a .force) _ (pushes (c .before)) (c .if1 .left)
+    cap-in-compression (a .loads) (a .force) _ (pushes (c .before)) (c .if1 .left)
 
 returns-3 : tie.Need-returns-3
 returns-3 c =
     let a = from-tension c .args in
-    pulled (a .loads) (a .force) _ (pulls c)
+    cap-in-tension (a .loads) (a .force) _ (pulls c)
 
 pub tension-cap-spec : {M : Type 1} → statement M
 tension-cap-spec =

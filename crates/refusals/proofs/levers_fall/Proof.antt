@@ -40,7 +40,7 @@ returns : tie.Need-returns Inv-loop μ-loop
 returns c =
     let s = c .before .before .before in
     let l = c .before .before .loop in
-    let fails = not-below (s .args .t2) (l .row) (l .inv .0) (c .if1 .taken) in
+    let fails = not-below (s .args .t2) (l .row) (l .inv .0) (omega (arith, c .if1 .taken)) in
     (sym (l .inv .1 ∙ row-fails _ _ _ (omega arith) _ (c .before .loop-test .taken) fails), l .inv .2)
 
 add-row : tie.Need-add-row Inv-loop μ-loop

@@ -10,14 +10,14 @@ mul-half-circle c = search needs
 mul-end : tie.Need-mul-end
 mul-end c = search needs
 
-mul-corner : tie.Need-mul-corner
-mul-corner c = search needs
+mul-half-end : tie.Need-mul-half-end
+mul-half-end c = search needs
 
-mul-corner-2 : tie.Need-mul-corner-2
-mul-corner-2 c = search needs
+mul-half-end-2 : tie.Need-mul-half-end-2
+mul-half-end-2 c = search needs
 
-add-corner : tie.Need-add-corner
-add-corner c = search needs
+add-half-end : tie.Need-add-half-end
+add-half-end c = search needs
 
 mul-least : tie.Need-mul-least
 mul-least c = search needs
@@ -92,9 +92,9 @@ extension-length-spec =
     (tie.spec
     mul-half-circle
     mul-end
-    mul-corner
-    mul-corner-2
-    add-corner
+    mul-half-end
+    mul-half-end-2
+    add-half-end
     mul-least
     mul-least-2
     add-least

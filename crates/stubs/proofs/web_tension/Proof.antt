@@ -11,7 +11,7 @@ add-result : tie.Need-add-result
 add-result c = search needs
 
 mul-result-2 : tie.Need-mul-result-2
-mul-result-2 c = fits ((c .pre .gauge-most ⊕ exactly 100 ⊗ c .pre .rise) ⊗ c .pre .web-most) tt
+mul-result-2 c = fits ((c .pre .length-most ⊕ exactly 100 ⊗ c .pre .rise) ⊗ c .pre .web-most) tt
 
 returns : tie.Need-returns
 returns c = search needs

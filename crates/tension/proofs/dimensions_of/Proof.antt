@@ -5,7 +5,7 @@ use native.Mathlib.Nat.{mul-comm}
 use native.Mathlib.Omega.{arith}
 use Rattle.stubs.specs.Worked.{lengthsOf}
 use Rattle.tension.specs.Dimensions.{dimensionsOf}
-use Rattle.tension.proofs.Sizes.{Sizes, sizes, column-parts, plate-parts, extension-measured}
+use Rattle.tension.proofs.Sizes.{Sizes, sizes, column-parts, plate-parts, extension-figures}
 use Rattle.tension.proofs.Worked.{column-stub, plate-stub}
 use borrow.Author.Needs.{needs}
 use Rattle.tension.proofs.dimensions_of.Statement.{statement}
@@ -34,14 +34,11 @@ from-near-flange c = from-plate-lengths (c .before)
 abbrev from-extension : tie.After-extension-limit → tie.Start
 from-extension c = from-near-flange (c .before)
 
-abbrev from-gauge : tie.After-times2 → tie.Start
-from-gauge c = from-extension (c .before)
+abbrev from-web-length : tie.After-times2 → tie.Start
+from-web-length c = from-extension (c .before)
 
 abbrev from-column-web : tie.After-times3 → tie.Start
-from-column-web c = from-gauge (c .before)
-
-abbrev from-beam-web : tie.After-times4 → tie.Start
-from-beam-web c = from-column-web (c .before)
+from-column-web c = from-web-length (c .before)
 
 sizes-at : (s : tie.Start) → Sizes (s .args .spacing) (s .args .steel)
 sizes-at s = sizes (s .args .column) (s .args .face) (s .pre .0) (s .args .spacing) (s .args .steel) (s .args .pair) (s .pre .1)
@@ -77,14 +74,14 @@ times-requires c κs =
 extension-limit-requires : tie.Need-extension-limit-requires
 extension-limit-requires c κs =
     let s = from-near-flange c in
-    extension-measured (s .args .column) (s .args .face) (s .pre .0) (s .args .spacing) (s .args .steel) (s .args .pair) (s .pre .1)
+    extension-figures (s .args .column) (s .args .face) (s .pre .0) (s .args .spacing) (s .args .steel) (s .args .pair) (s .pre .1)
 
 times-requires-2 : tie.Need-times-requires-2
 times-requires-2 c κs = (from-extension c .pre .0 .face .layout .gauge .high, omega arith)
 
 times-requires-3 : tie.Need-times-requires-3
 times-requires-3 c κs =
-    let s = from-gauge c in
+    let s = from-web-length c in
     (omega (arith, s .pre .0 .column .web .high), omega (arith, sizes-at s .strengths .column .high))
 
 times-requires-4 : tie.Need-times-requires-4
@@ -100,8 +97,8 @@ unfolding dimensionsOf
 returns c =
     let at-beam-web = c .before in
     let at-column-web = at-beam-web .before in
-    let at-gauge = at-column-web .before in
-    let at-extension = at-gauge .before in
+    let at-web-length = at-column-web .before in
+    let at-extension = at-web-length .before in
     let at-near-flange = at-extension .before in
     let at-plate-lengths = at-near-flange .before in
     let at-column-lengths = at-plate-lengths .before in
@@ -120,8 +117,8 @@ returns c =
       «plate_lengths» = (at-plate-lengths .lengths-of2 .ensures
           ∙ (λ t. lengthsOf (m .distances t .plate) (m .distances t .«plate_edge»))) i;
       «near_flange» = (at-near-flange .times .ensures ∙ (λ t. face .layout .alpha * m .distances t .plate)) i / 100;
-      extension = at-extension .extension-limit .ensures i;
-      gauge = (at-gauge .times2 .ensures ∙ mul-comm (face .layout .gauge) 173) i;
+      «extension_limit» = at-extension .extension-limit .ensures i;
+      «web_length» = (at-web-length .times2 .ensures ∙ mul-comm (face .layout .gauge) 173) i;
       «column_web» = (at-column-web .times3 .ensures ∙ (λ t. column .web * m .strengths t .column)) i;
       «beam_web» = (at-beam-web .times4 .ensures ∙ (λ t. face .beam .web * m .strengths t .beam)) i;
       pair = s .args .pair;

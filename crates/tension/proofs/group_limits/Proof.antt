@@ -21,7 +21,7 @@ fill-limits-requires c κs =
     record {
       dimensions =
           rw (at-dimensions .dimensions-of .ensures)
-          (dimensions-within (a .column) (a .face) (s .pre .admissible) (a .pair) (s .pre .measured .pair));
+          (dimensions-within (a .column) (a .face) (s .pre .admissible) (a .pair) (s .pre .figures .pair));
       levers = levers-of (a .column) (a .face) (s .pre .admissible);
       size = s .pre .size;
     }

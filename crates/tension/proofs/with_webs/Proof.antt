@@ -22,7 +22,7 @@ least-requires-2 c κs = search needs
 
 -- a limit with the column web's
 with-column : (c : tie.After-least)
-    → (let a = c .before .before .args in c .least .result ≡ min (a .limit) (webBy (a .d .gauge) (a .rise) (a .d .«column_web»)))
+    → (let a = c .before .before .args in c .least .result ≡ min (a .limit) (webBy (a .d .«web_length») (a .rise) (a .d .«column_web»)))
 with-column c = c .least .ensures ∙ ap (min _) (c .before .web-tension .ensures)
 
 returns : tie.Need-returns

@@ -8,7 +8,7 @@ use Rattle.joint.specs.Ranges.{depths, loads}
 use Rattle.joint.specs.Axial.{axialForce}
 use Rattle.joint.specs.declared.AxialForce.the-variants.{Compression, Tension}
 use Rattle.joint.proofs.Axial.{case-of, size-of-compression, size-of-tension}
-use Rattle.verdicts.proofs.Signs.{compressed, pulled}
+use Rattle.verdicts.proofs.Signs.{carries-in-compression, carries-in-tension}
 use borrow.Author.Needs.{needs}
 use Rattle.verdicts.proofs.carries_moment.Statement.{statement}
 use Rattle.verdicts.proofs.carries_moment.Tie as tie
@@ -104,10 +104,10 @@ mul-result-4 : tie.Need-mul-result-4
 mul-result-4 c = search needs
 
 returns : tie.Need-returns
-returns c = let a = from-compression c .args in compressed (a .loads) (a .beam) (a .moment) _ (compression c)
+returns c = let a = from-compression c .args in carries-in-compression (a .loads) (a .beam) (a .moment) _ (compression c)
 
 returns-2 : tie.Need-returns-2
-returns-2 c = let a = from-tension c .args in pulled (a .loads) (a .beam) (a .moment) _ (tension c)
+returns-2 c = let a = from-tension c .args in carries-in-tension (a .loads) (a .beam) (a .moment) _ (tension c)
 
 pub carries-moment-spec : {M : Type 1} → statement M
 carries-moment-spec =

@@ -7,7 +7,8 @@ use lib.Dec.{eqb}
 use lib.ListN.{getD, take}
 use Rattle.sharing.specs.Groups.{mostLimit}
 use Rattle.verdicts.specs.Tally.{tallyOf}
-use Rattle.verdicts.specs.Asked.{mostLever, mostRowMoment}
+use Rattle.joint.specs.Ranges.{mostLever}
+use Rattle.verdicts.specs.Asked.{mostRowMoment}
 use Rattle.verdicts.proofs.Tallying.{Counted, either-le, row-moment-le, start, one-more}
 use Rattle.verdicts.proofs.tally_forces.Statement.{statement}
 use Rattle.verdicts.proofs.tally_forces.Tie as tie
@@ -60,14 +61,14 @@ mul-moment-2 c = omega (arith, moment-le (c .before))
 add-moment : tie.Need-add-moment Inv-loop μ-loop
 add-moment c = omega (arith, c .before .loop .inv .1 .moment-le, moment-le (c .before))
 
-has-force-requires : tie.Need-has-force-requires Inv-loop μ-loop
-has-force-requires c κs = search needs
+force-count-requires : tie.Need-force-count-requires Inv-loop μ-loop
+force-count-requires c κs = search needs
 
 add-pulling : tie.Need-add-pulling Inv-loop μ-loop
 add-pulling c =
     let turn = c .before .before in
     let force = getD (turn .before .args .t3) (turn .loop .row) 0 in
-    omega (arith, turn .loop .inv .1 .pulling-le, c .has-force .ensures, either-le (eqb force 0))
+    omega (arith, turn .loop .inv .1 .pulling-le, c .force-count .ensures, either-le (eqb force 0))
 
 add-row : tie.Need-add-row Inv-loop μ-loop
 add-row c = omega arith
@@ -79,7 +80,7 @@ loop-again : tie.Need-loop-again Inv-loop μ-loop
 loop-again c =
     let turn = c .before .before in (
       omega arith,
-      one-more _ _ _ _ _ _ (omega arith) (omega arith) (lever-le turn) (force-le turn) _ (c .has-force .ensures) (turn .loop .inv .1),
+      one-more _ _ _ _ _ _ (omega arith) (omega arith) (lever-le turn) (force-le turn) _ (c .force-count .ensures) (turn .loop .inv .1),
     )
 
 returns : tie.Need-returns Inv-loop μ-loop
@@ -107,7 +108,7 @@ tally-forces-spec =
     cast-moment
     mul-moment-2
     add-moment
-    has-force-requires
+    force-count-requires
     add-pulling
     add-row
     loop-less

@@ -4,6 +4,7 @@ use mathlib.Core.Bool.{true, false, not}
 use lib.ListN.{length}
 use borrow.Author.Needs.{needs}
 use borrow.Author.Tests.{not-true, not-false}
+use Rattle.arithmetic.specs.Checks.{checksBefore}
 use Rattle.arithmetic.proofs.Checks.{holds, fails, none-left}
 use Rattle.joint.proofs.InRange.{lever-most}
 use Rattle.strength.specs.Thickness.{bothTooThick}
@@ -11,7 +12,7 @@ use Rattle.strength.proofs.Ranges.{steel-in-range}
 use Rattle.spacing.specs.Spacing.{spacingOf}
 use Rattle.refusals.specs.Refusals.{leversFall, rowsInPlace, tooTight}
 use Rattle.work.specs.OneFace.{steelOf}
-use Rattle.work.specs.Work.{refusals}
+use Rattle.work.specs.Work.{refusalsAfter10}
 use Rattle.work.specs.declared.Admission.the-variants.{Admitted, Refused}
 use Rattle.work.proofs.admit.Statement.{statement}
 use Rattle.work.proofs.admit.Tie as tie
@@ -39,8 +40,8 @@ fall c = c .levers-fall .ensures .0
 eight : (c : tie.After-levers-fall) → length (from-11 c .args .face .levers) ≡ 8
 eight c = c .levers-fall .ensures .1
 
-placed : (c : tie.After-rows-in-place) → c .rows-in-place .result ≡ rowsInPlace (from-12 c .args .face)
-placed c = c .rows-in-place .ensures
+rows-in-place : (c : tie.After-rows-in-place) → c .rows-in-place .result ≡ rowsInPlace (from-12 c .args .face)
+rows-in-place c = c .rows-in-place .ensures
 
 tight : (c : tie.After-too-tight)
     → c .too-tight .result ≡ tooTight (from-13 c .args .face .extended) (spacingOf (from-13 c .args .column) (from-13 c .args .face))
@@ -60,7 +61,7 @@ past-11 : (c : tie.Else1) → leversFall (from-11 (c .before) .args .face) ≡ t
 past-11 c = sym (fall (c .before)) ∙ not-false _ (c .if1 .left)
 
 past-12 : (c : tie.Else2) → rowsInPlace (from-12 (c .before) .args .face) ≡ true
-past-12 c = sym (placed (c .before)) ∙ not-false _ (c .if2 .left)
+past-12 c = sym (rows-in-place (c .before)) ∙ not-false _ (c .if2 .left)
 
 past-13 : (c : tie.Else3)
     → not (tooTight (from-13 (c .before) .args .face .extended)
@@ -76,7 +77,7 @@ levers-fall-requires : tie.Need-levers-fall-requires
 levers-fall-requires c κs = search needs
 
 returns : tie.Need-returns
-unfolding refusals
+unfolding refusalsAfter10 checksBefore
 returns c =
     (sym (fails Admitted Refused 11 _ _ (sym (fall (c .before)) ∙ not-true _ (c .if1 .taken))), eight (c .before))
 
@@ -87,12 +88,12 @@ rows-in-place-requires c κs =
     record { rows = face .rows .high; depth = face .beam .depth; flange = face .beam .flange; lever = lever-most (start .args .face) face }
 
 returns-2 : tie.Need-returns-2
-unfolding refusals
+unfolding refusalsAfter10 checksBefore
 returns-2 c =
     let passed = c .before .before in (
       sym
           (holds Admitted Refused 11 _ _ (past-11 passed)
-          ∙ fails Admitted Refused 12 _ _ (sym (placed (c .before)) ∙ not-true _ (c .if2 .taken))),
+          ∙ fails Admitted Refused 12 _ _ (sym (rows-in-place (c .before)) ∙ not-true _ (c .if2 .taken))),
       eight (passed .before),
     )
 
@@ -100,7 +101,7 @@ too-tight-requires : tie.Need-too-tight-requires
 too-tight-requires c κs = search needs
 
 returns-3 : tie.Need-returns-3
-unfolding refusals
+unfolding refusalsAfter10 checksBefore
 returns-3 c =
     let passed = c .before .before in
     let falling = passed .before .before in (
@@ -124,7 +125,7 @@ both-too-thick-requires c κs =
     }
 
 returns-4 : tie.Need-returns-4
-unfolding refusals
+unfolding refusalsAfter10 checksBefore
 returns-4 c =
     let passed = c .before .before in
     let in-place = passed .before .before in
@@ -137,7 +138,7 @@ returns-4 c =
     )
 
 returns-5 : tie.Need-returns-5
-unfolding refusals
+unfolding refusalsAfter10 checksBefore
 returns-5 c =
     let passed = c .before .before in
     let in-place = passed .before .before in

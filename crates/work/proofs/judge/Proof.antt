@@ -29,7 +29,7 @@ bolted c = c .before .before
 -- ---- what is known at the start
 
 face-in-range : (s : tie.Start) → FaceInRange (s .args .face)
-face-in-range s = s .pre .face-measured .admissible .face
+face-in-range s = s .pre .admitted-face .admissible .face
 
 pulling : (s : tie.Start) → s .args .tally .pulling ≡ pullingRows (forcesOf (s .args .column) (s .args .bolt) (s .args .face))
 pulling s = ap (λ t. t .pulling) (s .pre .tallied)
@@ -63,7 +63,7 @@ bolts-carry-requires : tie.Need-bolts-carry-requires
 bolts-carry-requires c κs =
     let s = counting (c .before) in
     let f = face-in-range s in
-    let m = s .pre .face-measured in
+    let m = s .pre .admitted-face in
     record {
       pair = record { bolt = m .bolt; column = m .admissible .column; plate = f .plate };
       pulling-rows = record { low = zero-le; high = omega (arith, few-pull s, f .rows .high) };
@@ -79,7 +79,7 @@ flange-weld-requires c κs =
     let s = counting known in
     record {
       face = face-in-range s;
-      beam-strength = ap (λ m. m .steel .beam) (s .pre .face-measured .measured);
+      beam-strength = ap (λ m. m .steel .beam) (s .pre .admitted-face .measured);
       weld-strength = welded known .weld-strength .ensures;
     }
 

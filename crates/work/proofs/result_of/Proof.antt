@@ -50,7 +50,7 @@ counted c =
 -- ---- the needs
 
 row-forces-requires : tie.Need-row-forces-requires
-row-forces-requires c κs = c .before .pre .face-measured
+row-forces-requires c κs = c .before .pre .admitted-face
 
 cast-tally-forces : tie.Need-cast-tally-forces
 cast-tally-forces c = search needs
@@ -58,7 +58,7 @@ cast-tally-forces c = search needs
 tally-forces-requires : tie.Need-tally-forces-requires
 tally-forces-requires c κs =
     let s = sharing (c .before) in
-    let f = s .pre .face-measured .admissible .face in
+    let f = s .pre .admitted-face .admissible .face in
     record { rows = f .rows .high; lever-most = lever-most (s .args .face) f; force-most = c .before .row-forces .ensures .1 }
 
 judge-requires : tie.Need-judge-requires
@@ -66,7 +66,7 @@ judge-requires c κs =
     let tallied = c .before in
     let shared = tallying tallied in
     record {
-      face-measured = sharing shared .pre .face-measured;
+      admitted-face = sharing shared .pre .admitted-face;
       places = own shared;
       bounded = shared .row-forces .ensures .1;
       tallied = counted tallied;

@@ -32,7 +32,7 @@ group-limits-requires c κs =
     let measured = start c .pre .measured in
     record {
       admissible = start c .pre .admissible;
-      measured = record {
+      figures = record {
         distances = ap (λ m. m .spacing) measured;
         strengths = ap (λ m. m .steel) measured;
         pair = start c .pre .bolt .pair-tension;

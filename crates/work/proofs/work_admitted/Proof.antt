@@ -3,6 +3,7 @@ use mathlib.Core.Path.{_≡_, sym, ap, _∙_}
 use mathlib.Core.Bool.{true, false, not}
 use native.Mathlib.Omega.{arith}
 use borrow.Author.Needs.{needs}
+use Rattle.arithmetic.specs.Checks.{checksFrom}
 use Rattle.arithmetic.proofs.Checks.{holds, fails, none-left}
 use Rattle.strength.proofs.Ranges.{steel-in-range}
 use Rattle.compression.proofs.Ranges.{parts-in-range}
@@ -10,7 +11,7 @@ use Rattle.governing.specs.Governing.{forceOf}
 use Rattle.governing.specs.Cap.{newtonsOf, overCompressed}
 use Rattle.governing.specs.Answers.{capCase}
 use Rattle.work.specs.OneFace.{governingOf, capOf}
-use Rattle.work.specs.Work.{refusals, refusedBy, refusedFace}
+use Rattle.work.specs.Work.{refusalsAfter10, refusedOutcome, refusedFace}
 use Rattle.governing.proofs.Cases.{exceeded, within-cap}
 use Rattle.work.proofs.work_admitted.Statement.{statement}
 use Rattle.work.proofs.work_admitted.Tie as tie
@@ -32,16 +33,16 @@ force : (c : tie.After-force-of)
     → c .force-of .result ≡ forceOf (governingOf (c .before .before .args .column) (c .before .before .args .face))
 force c = c .force-of .ensures ∙ ap forceOf (c .before .governing-of .ensures .0)
 
-capped : (c : tie.After-tension-cap)
+cap-is : (c : tie.After-tension-cap)
     → c .tension-cap .result ≡ capCase (start c .args .face .loads) (forceOf (governingOf (start c .args .column) (start c .args .face)))
-capped c = c .tension-cap .ensures ∙ ap (capCase (start c .args .face .loads)) (force (c .before))
+cap-is c = c .tension-cap .ensures ∙ ap (capCase (start c .args .face .loads)) (force (c .before))
 
 newtons : (c : tie.After-known-told)
     → (overCompressed (start (under c) .args .face .loads)
     (forceOf (governingOf (start (under c) .args .column) (start (under c) .args .face))) ≡ false)
-    × (c .before .capped .given .0 .0 ≡ newtonsOf (capOf (start (under c) .args .column) (start (under c) .args .face)))
+    × (c .before .cap-case .given .0 .0 ≡ newtonsOf (capOf (start (under c) .args .column) (start (under c) .args .face)))
 unfolding capOf
-newtons c = within-cap _ _ _ (sym (c .before .capped .given .1) ∙ capped (under c))
+newtons c = within-cap _ _ _ (sym (c .before .cap-case .given .1) ∙ cap-is (under c))
 
 -- ---- the needs
 
@@ -58,8 +59,8 @@ tension-cap-requires : tie.Need-tension-cap-requires
 tension-cap-requires c κs =
     (omega (arith, c .force-of .ensures, c .before .governing-of .ensures .1), c .before .before .pre .admissible .face .loads)
 
-enum-known-capped : tie.Need-enum-known-capped
-enum-known-capped c = search needs
+enum-known-cap-case : tie.Need-enum-known-cap-case
+enum-known-cap-case c = search needs
 
 enum-told : tie.Need-enum-told
 enum-told c = search needs
@@ -68,22 +69,22 @@ refused-requires : tie.Need-refused-requires
 refused-requires c κs = search needs
 
 returns : tie.Need-returns
-unfolding refusals
+unfolding refusalsAfter10 checksFrom
 returns c =
     let told = c .before in
-    let above = exceeded _ _ (sym (told .enum-told .given .1) ∙ capped (over told)) in
+    let above = exceeded _ _ (sym (told .enum-told .given .1) ∙ cap-is (over told)) in
     c .refused .ensures ∙ sym (fails _ refusedFace 15 _ _ (ap not above))
 
 result-of-requires : tie.Need-result-of-requires
 result-of-requires c κs =
     record {
-      face-measured = start (under c) .pre;
+      admitted-face = start (under c) .pre;
       governs = under c .before .before .governing-of .ensures .0;
       newtons = newtons c .1;
     }
 
 returns-2 : tie.Need-returns-2
-unfolding refusals
+unfolding refusalsAfter10 checksFrom
 returns-2 c =
     (λ i. record { refusal = record { number = 0; field = 0 }; result = c .result-of .ensures i })
     ∙ sym (holds _ refusedFace 15 _ _ (ap not (newtons (c .before) .0)) ∙ none-left _ _)
@@ -95,7 +96,7 @@ work-admitted-spec =
     governing-of-requires
     force-of-requires
     tension-cap-requires
-    enum-known-capped
+    enum-known-cap-case
     enum-told
     refused-requires
     returns

@@ -1,18 +1,18 @@
--- `work_face` meets its contract: the list of refusals is cut after its fourth, and the admission tells what comes of the first four.
+-- `work_face` meets its contract: the list of refusals is cut at 15, and the admission tells what comes of those before it.
 -- Assumes nothing.
 use mathlib.Core.Path.{_≡_, refl, sym, ap, _∙_}
 use mathlib.Core.Bool.{true}
 use lib.ListN.{length, take, drop}
 use borrow.Author.Needs.{needs}
 use borrow.Author.Tests.{not-true}
-use Rattle.arithmetic.specs.Checks.{firstFailing}
-use Rattle.arithmetic.proofs.Checks.{one-after-another, of-each, held}
+use Rattle.arithmetic.specs.Checks.{firstFailing, checksBefore, checksFrom}
+use Rattle.arithmetic.proofs.Checks.{one-after-another, cut-at, of-each}
 use Rattle.joint.specs.declared.Column.{Column}
 use Rattle.joint.specs.declared.Face.{Face}
 use Rattle.strength.specs.declared.BoltStrengths.{BoltStrengths}
 use Rattle.tension.specs.Admissible.{Admissible}
 use Rattle.outcome.specs.declared.Outcome.{Outcome}
-use Rattle.work.specs.Work.{refusedBy, refusals, completed, resultOf, workedFace, refusedFace}
+use Rattle.work.specs.Work.{refusedOutcome, refusalsAfter10, completed, resultOf, workedFace, refusedFace}
 use Rattle.work.specs.Steps.{admittedTo}
 use Rattle.work.specs.declared.Admission.{Admission}
 use Rattle.work.specs.declared.Admission.the-variants.{Admitted, Refused}
@@ -23,16 +23,18 @@ use Rattle.work.proofs.work_face.Tie as tie
 -- what an admission comes to is what the face comes to
 module _ (column : Column) (bolt : BoltStrengths) (face : Face) where
   rest : Outcome
-  rest = firstFailing (completed (resultOf column bolt face)) refusedFace (drop 4 (refusals column bolt face))
+  rest = firstFailing (completed (resultOf column bolt face)) refusedFace (checksFrom 15 (refusalsAfter10 column bolt face))
 
-  cut : (admission : Admission) → admission ≡ firstFailing Admitted Refused (take 4 (refusals column bolt face))
+  cut : (admission : Admission) → admission ≡ firstFailing Admitted Refused (checksBefore 15 (refusalsAfter10 column bolt face))
       → admittedTo rest admission ≡ workedFace column bolt face
-  unfolding workedFace refusals rest
+  unfolding workedFace rest
   cut admission e =
+      let all = refusalsAfter10 column bolt face in
+      let passed = completed (resultOf column bolt face) in
       ap (admittedTo rest) e
-      ∙ of-each (admittedTo rest) Admitted Refused (take 4 (refusals column bolt face))
-      ∙ sym (one-after-another (completed (resultOf column bolt face)) refusedFace
-      (take 4 (refusals column bolt face)) (drop 4 (refusals column bolt face)))
+      ∙ of-each (admittedTo rest) Admitted Refused (checksBefore 15 all)
+      ∙ sym (one-after-another passed refusedFace (checksBefore 15 all) (checksFrom 15 all))
+      ∙ ap (firstFailing passed refusedFace) (cut-at 15 all)
 
 -- ---- the places
 

@@ -18,17 +18,17 @@ less force zero h = add-zero force ∙ sym (sub-zero force)
 less force (suc n) h = rw (le-ltb force (suc n) h)
 
 module _ (loads : Loads) (force : ℕ) where
-  pub exceeded : (n : ℕ) → axialForce (loads .axial) ≡ Compression n → force < n → Exceeded ≡ capCase loads force
+  pub cap-exceeded : (n : ℕ) → axialForce (loads .axial) ≡ Compression n → force < n → Exceeded ≡ capCase loads force
   unfolding capCase tensionCap overCompressed
-  exceeded n e h = rw (is-compression (loads .axial) n e, lt-ltb force n h)
+  cap-exceeded n e h = rw (is-compression (loads .axial) n e, lt-ltb force n h)
 
-  pub compressed : (n : ℕ) → axialForce (loads .axial) ≡ Compression n → n ≤ force → Newtons (force - n) ≡ capCase loads force
+  pub cap-in-compression : (n : ℕ) → axialForce (loads .axial) ≡ Compression n → n ≤ force → Newtons (force - n) ≡ capCase loads force
   unfolding capCase tensionCap overCompressed
-  compressed n e h = rw (is-compression (loads .axial) n e, le-ltb force n h) (ap Newtons (sym (less force n h)))
+  cap-in-compression n e h = rw (is-compression (loads .axial) n e, le-ltb force n h) (ap Newtons (sym (less force n h)))
 
-  pub pulled : (n : ℕ) → axialForce (loads .axial) ≡ Tension n → Newtons (force + n) ≡ capCase loads force
+  pub cap-in-tension : (n : ℕ) → axialForce (loads .axial) ≡ Tension n → Newtons (force + n) ≡ capCase loads force
   unfolding capCase tensionCap overCompressed
-  pulled n e =
+  cap-in-tension n e =
       let m = is-tension (loads .axial) n e in
       ap (λ k. Newtons (force + k)) (m .1)
       ∙ ap (λ axial. capCase (record { axial = axial; shear = loads .shear; moment = loads .moment }) force) (sym (m .2))
