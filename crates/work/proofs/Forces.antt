@@ -2,7 +2,7 @@
 -- share alike. Group 1 to n has the n-th place, and no other group has it. Assumes nothing.
 use mathlib.Core.Path.{_≡_, refl, sym, ap, ap₂, _∙_}
 use mathlib.Core.Bool.{Bool, true, false, cond, _&&_}
-use Prim.Native.Nat.{ℕ, zero, suc, _+_, _-_, _≤_, _<_, min}
+use Prim.Native.Nat.{ℕ, zero, suc, _+_, _-_, _≤_, _<_, zero-le, min}
 use native.Mathlib.Omega.{arith}
 use mathlib.Core.List.{List}
 use lib.ListN.{length, getD, set, take, replicate, length-set}
@@ -67,19 +67,19 @@ module _ (n cap : ℕ) (limit : Table) (entry table : List ℕ) (filled : TableF
   pub forces-agree : shared (listed n (set table (n - 1) stored)) n ≡ shared (withCap limit n cap) n
   forces-agree = shared-agrees _ _ n agrees
 
--- any table that has a place for each group of eight rows, and no limit too large, can be shared under
-pub shareable : (n : ℕ) (table : List ℕ) → n ≤ rowCounts .high → length table ≡ tablePlaces → ((k : ℕ) → getD table k 0 ≤ mostLimit)
-    → Shareable n table
-shareable n table few size small =
-    record { rows = few; enough = omega (arith, size, group-count-le n few); bounded = λ k h. small k }
+-- A lent table of zeros that limits were put into, with a number stored that is at most one of its places: nothing in it is too large, and
+-- it has a place for each group of any count of rows.
+module _ (n : ℕ) (limit : Table) (table : List ℕ) (filled : TableFilled n limit (replicate tablePlaces 0) table) where
+  zeros : (m i : ℕ) → getD (replicate m 0) i 0 ≤ mostLimit
+  zeros zero i = zero-le
+  zeros (suc m) zero = zero-le
+  zeros (suc m) (suc i) = zeros m i
 
--- zeros that the limits were put into, with a number stored that is small too
-pub none-large : (n p places stored : ℕ) (limit : Table) (table : List ℕ) → TableFilled n limit (replicate places 0) table → stored ≤ mostLimit
-    → (k : ℕ) → getD (set table p stored) k 0 ≤ mostLimit
-none-large n p places stored limit table filled low k =
-    store-keeps mostLimit table p stored k (none-above filled (λ i. omega (arith, zeros places i)) k) low
-  where
-    zeros : (m i : ℕ) → getD (replicate m 0) i 0 ≡ 0
-    zeros zero i = refl
-    zeros (suc m) zero = refl
-    zeros (suc m) (suc i) = zeros m i
+  pub shareable : (rows place at stored : ℕ) → rows ≤ rowCounts .high → stored ≤ getD table at 0 → Shareable rows (set table place stored)
+  shareable rows place at stored few low =
+      let small = none-above filled (zeros tablePlaces) in
+      record {
+        rows = few;
+        enough = omega (arith, length-set table place stored, filled .size, group-count-le rows few);
+        bounded = λ k h. store-keeps mostLimit table place stored k (small k) (omega (arith, small at));
+      }

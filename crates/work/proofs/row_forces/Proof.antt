@@ -1,9 +1,10 @@
 -- `row_forces` meets its contract: the cap is stored on group 1 to n, and the table shares alike (the laws of `Forces`). Assumes nothing.
 use mathlib.Core.Path.{ap, _∙_}
-use Prim.Native.Nat.{_≤_}
+use Prim.Native.Nat.{_-_}
 use native.Mathlib.Omega.{arith}
 use Rattle.joint.specs.Places.{eightPlaces}
-use Rattle.work.proofs.Forces.{forces-agree, shareable, force-small}
+use Rattle.allocation.proofs.Rows.{force-le-most}
+use Rattle.work.proofs.Forces.{forces-agree, shareable}
 use borrow.Author.Needs.{needs}
 use Rattle.work.proofs.row_forces.Statement.{statement}
 use Rattle.work.proofs.row_forces.Tie as tie
@@ -60,17 +61,21 @@ slice-aggregate-share c = search needs
 
 share-requires : tie.Need-share-requires
 share-requires c κs =
-    let rows = from c .pre .admissible .face .rows in
-    shareable _ (from c .args .cap) _ _ _ (filled c .group-limits .ensures) (rows .low) (rows .high) _ (c .before .least .ensures)
+    let few = from c .pre .admissible .face .rows .high in
+    shareable _ _ _ (filled c .group-limits .ensures) _ _ (from c .args .face .rows - 1) _ (omega (arith, few))
+    (omega (arith, c .before .least .ensures))
 
 returns : tie.Need-returns
 returns c =
     let s = from (c .before) in
     let rows = s .pre .admissible .face .rows in
+    let whole = s .args .face .rows - 1 in
     let table = filled (c .before) .group-limits .ensures in
-    let lower = c .before .before .least .ensures in (
+    let least = c .before .before .least in
+    let lower = least .ensures in
+    let shares = shareable _ _ _ table (s .args .face .rows) whole whole (least .result) (rows .high) (omega (arith, lower)) in (
       c .share .ensures ∙ ap eightPlaces (forces-agree _ (s .args .cap) _ _ _ table (rows .low) (rows .high) _ lower),
-      (λ k. rw (c .share .ensures) (force-small _ (s .args .cap) _ _ _ table (rows .low) (rows .high) _ lower k)),
+      (λ k. rw (c .share .ensures) (force-le-most _ _ shares k)),
     )
 
 pub row-forces-spec : {M : Type 1} → statement M
