@@ -16,7 +16,7 @@ use Rattle.joint.specs.declared.Column.{Column}
 use Rattle.joint.specs.declared.Bolts.{Bolts}
 use Rattle.joint.specs.declared.Beam.{Beam}
 use Rattle.joint.specs.declared.Plate.{Plate}
-use Rattle.strength.specs.Steel.{bands, steelStrength, steelStrengths, steelBearing, eitherIs275, weldStrength}
+use Rattle.strength.specs.Steel.{bands, steelStrength, steelStrengths, eitherIs275, weldStrength}
 use Rattle.strength.specs.Bolt.{boltArea, boltTension, boltShear, boltBearing, boltUltimate, pairTension, pairShear, boltStrengths}
 use Rattle.strength.specs.InRange.{
   yieldStrengths,

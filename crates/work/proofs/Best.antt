@@ -2,7 +2,6 @@
 -- are the best of the lists that keep both (the theorems of `sharing`), and a larger moment carries what a smaller one does.
 -- Assumes nothing.
 use mathlib.Core.Path.{_≡_, refl, sym, ap, _∙_}
-use mathlib.Core.Bool.{true, false}
 use Prim.Native.Nat.{ℕ, suc, _≤_}
 use native.Mathlib.Omega.{arith}
 use mathlib.Core.List.{List}

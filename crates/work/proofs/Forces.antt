@@ -10,9 +10,9 @@ use lib.Seq.{getD-set-same, getD-set-other, take-at}
 use lib.Dec.{eqb}
 use borrow.Author.Tests.{eqb-true, eqb-false}
 use Rattle.arithmetic.proofs.Store.{store-keeps}
-use Rattle.sharing.specs.Groups.{Table, groupsAbove, groupCount, listed, withCap, mostLimit}
+use Rattle.sharing.specs.Groups.{Table, groupsAbove, listed, withCap, mostLimit}
 use Rattle.sharing.specs.Sharing.{shared}
-use Rattle.sharing.proofs.Places.{group-count-le, groups-inside, one-group-a-place}
+use Rattle.sharing.proofs.Places.{group-count-le, one-group-a-place}
 use Rattle.sharing.proofs.Agreement.{shared-agrees}
 use Rattle.sharing.proofs.Theorems.{best}
 use Rattle.joint.specs.Ranges.{rowCounts}

@@ -1,5 +1,5 @@
 -- `governing_of` meets its contract: the resistances are the face's own, and no governing force is above web bearing. Assumes nothing.
-use mathlib.Core.Path.{_≡_, sym, ap, _∙_}
+use mathlib.Core.Path.{ap, _∙_}
 use native.Mathlib.Omega.{arith}
 use borrow.Author.Needs.{needs}
 use Rattle.compression.specs.Compression.{resistancesOf}

@@ -1,9 +1,8 @@
 -- `work` meets its contract: a field out of range is refusal 10, and else what the face comes to; and an answer that is no refusal has
 -- demand 3, as the definition has it. Assumes nothing.
-use mathlib.Core.Path.{_≡_, sym, ap, _∙_}
+use mathlib.Core.Path.{sym, ap, _∙_}
 use native.Mathlib.Omega.{arith}
 use borrow.Author.Needs.{needs}
-use Rattle.joint.specs.Fields.{fieldCheck}
 use Rattle.joint.proofs.InRange.{in-range}
 use Rattle.strength.specs.Bolt.{boltStrengths}
 use Rattle.strength.proofs.Ranges.{bolt-in-range}

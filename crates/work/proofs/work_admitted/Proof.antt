@@ -1,17 +1,16 @@
 -- `work_admitted` meets its contract: the cap's case tells whether 15 holds, and else the result is the whole one. Assumes nothing.
 use mathlib.Core.Path.{_≡_, sym, ap, _∙_}
-use mathlib.Core.Bool.{true, false, not}
+use mathlib.Core.Bool.{false, not}
 use native.Mathlib.Omega.{arith}
 use borrow.Author.Needs.{needs}
 use Rattle.arithmetic.specs.Checks.{checksFrom}
 use Rattle.arithmetic.proofs.Checks.{holds, fails, none-left}
-use Rattle.strength.proofs.Ranges.{steel-in-range}
 use Rattle.compression.proofs.Ranges.{parts-in-range}
 use Rattle.governing.specs.Governing.{forceOf}
 use Rattle.governing.specs.Cap.{newtonsOf, overCompressed}
 use Rattle.governing.specs.Answers.{capCase}
 use Rattle.work.specs.OneFace.{governingOf, capOf}
-use Rattle.work.specs.Work.{refusalsAfter10, refusedOutcome, refusedFace}
+use Rattle.work.specs.Work.{refusalsAfter10, refusedFace}
 use Rattle.governing.proofs.Cases.{exceeded, within-cap}
 use Rattle.work.proofs.work_admitted.Statement.{statement}
 use Rattle.work.proofs.work_admitted.Tie as tie

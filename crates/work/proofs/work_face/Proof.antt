@@ -1,18 +1,14 @@
 -- `work_face` meets its contract: the list of refusals is cut at 15, and the admission tells what comes of those before it.
 -- Assumes nothing.
-use mathlib.Core.Path.{_≡_, refl, sym, ap, _∙_}
-use mathlib.Core.Bool.{true}
-use lib.ListN.{length, take, drop}
+use mathlib.Core.Path.{_≡_, sym, ap, _∙_}
 use borrow.Author.Needs.{needs}
-use borrow.Author.Tests.{not-true}
 use Rattle.arithmetic.specs.Checks.{firstFailing, checksBefore, checksFrom}
 use Rattle.arithmetic.proofs.Checks.{one-after-another, cut-at, of-each}
 use Rattle.joint.specs.declared.Column.{Column}
 use Rattle.joint.specs.declared.Face.{Face}
 use Rattle.strength.specs.declared.BoltStrengths.{BoltStrengths}
-use Rattle.tension.specs.Admissible.{Admissible}
 use Rattle.outcome.specs.declared.Outcome.{Outcome}
-use Rattle.work.specs.Work.{refusedOutcome, refusalsAfter10, completed, resultOf, workedFace, refusedFace}
+use Rattle.work.specs.Work.{refusalsAfter10, completed, resultOf, workedFace, refusedFace}
 use Rattle.work.specs.Steps.{admittedTo}
 use Rattle.work.specs.declared.Admission.{Admission}
 use Rattle.work.specs.declared.Admission.the-variants.{Admitted, Refused}
