@@ -3,7 +3,8 @@
 use Prim.Native.Nat.{ℕ, _-_}
 use mathlib.Core.List.{List, _++_}
 use lib.ListN.{length, replicate}
+use Rattle.joint.specs.Ranges.{rowCounts}
 
 -- a number for each row, and 0 for each spare place
 unfoldable pub eightPlaces : List ℕ → List ℕ
-eightPlaces numbers = numbers ++ replicate (8 - length numbers) 0
+eightPlaces numbers = numbers ++ replicate (rowCounts .high - length numbers) 0

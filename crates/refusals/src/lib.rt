@@ -14,7 +14,7 @@ use spacing::Spacing;
 // caller doesn't know it.
 pub fn levers_fall(rows: usize, levers: [u32; 8]) -> bool
     requires { ⌜ rows ≤ rowCounts .high ⌝ }
-    ensures { λ r. ⌜ (r ≡ every (belowAbove levers) 0 (take rows levers)) × (length levers ≡ 8) ⌝ }
+    ensures { λ r. ⌜ (r ≡ every (belowAbove levers) 0 (take rows levers)) × (length levers ≡ rowCounts .high) ⌝ }
 {
     let mut row = 1;
     while row < rows {

@@ -9,6 +9,7 @@ use lib.Dec.{ltb}
 use borrow.Author.Tests.{ltb-false, eq-eqb, not-true}
 use Rattle.arithmetic.specs.Checks.{firstFailing, checksBefore}
 use Rattle.arithmetic.proofs.Checks.{numbered, positive, numbered-holds}
+use Rattle.joint.specs.Ranges.{rowCounts}
 use Rattle.joint.specs.InRange.{ColumnInRange, FaceInRange}
 use Rattle.joint.specs.declared.Column.{Column}
 use Rattle.joint.specs.declared.Face.{Face}
@@ -26,7 +27,7 @@ neither false b e = (refl, e)
 neither true b e = let never : _≡_ {A = ℕ} 0 1 = cc in absurd (omega arith)
 
 -- what refusals 10, 11 and 13 leave
-pub admissible : (column : Column) (face : Face) → ColumnInRange column → FaceInRange face → length (face .levers) ≡ 8
+pub admissible : (column : Column) (face : Face) → ColumnInRange column → FaceInRange face → length (face .levers) ≡ rowCounts .high
     → leversFall face ≡ true → tooTight (face .extended) (spacingOf column face) ≡ false → Admissible column face
 unfolding leversFall tooTight
 admissible column face c f eight falling loose =
@@ -47,7 +48,7 @@ admissible column face c f eight falling loose =
     }
 
 -- the same of a face that is admitted
-pub admitted : (column : Column) (bolt : BoltStrengths) (face : Face) → ColumnInRange column → FaceInRange face → length (face .levers) ≡ 8
+pub admitted : (column : Column) (bolt : BoltStrengths) (face : Face) → ColumnInRange column → FaceInRange face → length (face .levers) ≡ rowCounts .high
     → firstFailing Admitted Refused (checksBefore 15 (refusalsAfter10 column bolt face)) ≡ Admitted → Admissible column face
 unfolding refusalsAfter10 checksBefore numbered positive
 admitted column bolt face c f eight e =

@@ -11,6 +11,7 @@ use lib.Dec.{leb→le, le→leb}
 use lib.IntN.{pos}
 use borrow.Author.Tests.{not-true}
 use Rattle.arithmetic.proofs.Checks.{numbered}
+use Rattle.joint.specs.Ranges.{rowCounts}
 use Rattle.joint.specs.Fields.{fieldCheck}
 use Rattle.joint.specs.declared.Joint.{Joint}
 use Rattle.joint.specs.declared.Column.{Column}
@@ -39,7 +40,7 @@ use Rattle.work.proofs.Forces.{rows-kept}
 use Rattle.work.proofs.Answers.{admissible, refusal-is, not-refused}
 
 module _ (column : Column) (bolt : BoltStrengths) (face : Face) (a : Admissible column face)
-    (eight : length (face .levers) ≡ 8) (cap : capOf column face ≡ pos (newtonsOf (capOf column face))) where
+    (eight : length (face .levers) ≡ rowCounts .high) (cap : capOf column face ≡ pos (newtonsOf (capOf column face))) where
   n : ℕ
   n = rowsOf face
 
@@ -103,7 +104,7 @@ module _ (column : Column) (bolt : BoltStrengths) (face : Face) (a : Admissible 
       }
 
 -- a face that no refusal turns down
-of-face : (column : Column) (bolt : BoltStrengths) (face : Face) → ColumnInRange column → FaceInRange face → length (face .levers) ≡ 8
+of-face : (column : Column) (bolt : BoltStrengths) (face : Face) → ColumnInRange column → FaceInRange face → length (face .levers) ≡ rowCounts .high
     → (answer : Outcome) → workedFace column bolt face ≡ answer → answer .refusal .number ≡ 0
     → Demand3 column bolt face (answer .result .forces) (answer .result .verdicts .bending)
 unfolding refusalsAfter10 numbered capOf
@@ -113,7 +114,7 @@ of-face column bolt face c f eight answer e none =
     rw (sym (all .1)) (demand column bolt face a eight (cap-newtons _ _ (not-true _ (all .0 15))))
 
 -- Demand 3: for every joint whose answer is no refusal. A joint in the machine has eight levers.
-pub worked-demand : (joint : Joint) → length (joint .face .levers) ≡ 8 → (answer : Outcome) → worked joint ≡ answer
+pub worked-demand : (joint : Joint) → length (joint .face .levers) ≡ rowCounts .high → (answer : Outcome) → worked joint ≡ answer
     → answer .refusal .number ≡ 0 → Demand3Of joint answer
 unfolding worked
 worked-demand joint eight answer e none = by-fields (fieldCheck (joint .column) (joint .bolts) (joint .face)) refl e

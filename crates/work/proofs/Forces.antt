@@ -25,7 +25,7 @@ use Rattle.tension.proofs.Filling.{none-above}
 pub rows-kept : (n : ℕ) (limit : Table) → take n (eightPlaces (shared limit n)) ≡ shared limit n
 unfolding eightPlaces
 rows-kept n limit =
-    take-at (shared limit n) (replicate (8 - length (shared limit n)) 0) n (best limit n .competes .rows)
+    take-at (shared limit n) (replicate (rowCounts .high - length (shared limit n)) 0) n (best limit n .competes .rows)
 
 module _ (n cap : ℕ) (limit : Table) (entry table : List ℕ) (filled : TableFilled n limit entry table) (some : 1 ≤ n) (few : n ≤ rowCounts .high)
     (stored : ℕ) (lower : stored ≡ min (getD table (n - 1) 0) cap) where

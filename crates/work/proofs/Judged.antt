@@ -12,6 +12,7 @@ use Rattle.strength.specs.declared.BoltStrengths.{BoltStrengths}
 use Rattle.joint.specs.declared.Face.{Face}
 use Rattle.sharing.specs.Groups.{total, withCap}
 use Rattle.sharing.proofs.Theorems.{best}
+use Rattle.joint.specs.Ranges.{rowCounts}
 use Rattle.joint.specs.Places.{eightPlaces}
 use Rattle.verdicts.specs.Tally.{pullingRows}
 use Rattle.verdicts.specs.Bolts.{idlePair, pullingPair, boltsPass}
@@ -33,7 +34,7 @@ top-of-places (suc k) m (x ∷ xs) = ap (λ t. x + t) (top-of-places k m xs)
 
 pub top-judged : (extended : ℕ) (forces : List ℕ) → topRows extended (eightPlaces forces) ≡ topRows extended forces
 unfolding topRows eightPlaces
-top-judged extended forces = top-of-places (cond (eqb extended 0) 2 3) (8 - length forces) forces
+top-judged extended forces = top-of-places (cond (eqb extended 0) 2 3) (rowCounts .high - length forces) forces
 
 module _ (column : Column) (bolt : BoltStrengths) (face : Face) where
   row-count : length (forcesOf column bolt face) ≡ rowsOf face

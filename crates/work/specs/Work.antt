@@ -4,6 +4,7 @@ use mathlib.Core.Bool.{false, not}
 use mathlib.Core.List.{List, [], _∷_}
 use lib.ListN.{replicate}
 use Rattle.arithmetic.specs.Checks.{Check, firstFailing}
+use Rattle.joint.specs.Ranges.{rowCounts}
 use Rattle.joint.specs.Fields.{fieldCheck}
 use Rattle.joint.specs.declared.Joint.{Joint}
 use Rattle.joint.specs.declared.Column.{Column}
@@ -31,7 +32,7 @@ abbrev pub refusedOutcome : (number field : ℕ) → Outcome
 refusedOutcome number field = record {
   refusal = record { number = number; field = field };
   result = record {
-    forces = replicate 8 0;
+    forces = replicate (rowCounts .high) 0;
     sum = 0;
     «newton_metres» = 0;
     cap = 0;

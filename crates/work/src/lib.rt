@@ -4,6 +4,7 @@ ghost use mathlib.Core.Path.{_≡_};
 ghost use Prim.Native.Nat.{ℕ, _≤_};
 ghost use lib.ListN.{length, getD};
 ghost use Rattle.arithmetic.specs.Checks.{firstFailing, checksBefore, checksFrom};
+ghost use Rattle.joint.specs.Ranges.{rowCounts};
 ghost use Rattle.joint.specs.Places.{eightPlaces};
 ghost use Rattle.compression.specs.InRange.{PartsInRange, mostBearing};
 ghost use Rattle.governing.specs.Governing.{forceOf};
@@ -83,7 +84,7 @@ fn refused(number: u32, field: u32) -> Outcome
 // A face whose fields are in range. That it has eight levers is promised too: of an array that is a field the caller doesn't know it.
 fn work_face(column: Column, bolt: BoltStrengths, face: Face) -> Outcome
     requires { ⌜ FaceAsked column bolt face ⌝ }
-    ensures { λ r. ⌜ (r ≡ workedFace column bolt face) × (length (face .levers) ≡ 8) ⌝ }
+    ensures { λ r. ⌜ (r ≡ workedFace column bolt face) × (length (face .levers) ≡ rowCounts .high) ⌝ }
 {
     let measures = measures_of(column, face);
     let admission = admit(column, bolt, face, measures);
@@ -105,7 +106,7 @@ fn measures_of(column: Column, face: Face) -> Measures
 // The refusals between 10 and 15.
 fn admit(column: Column, bolt: BoltStrengths, face: Face, measures: Measures) -> Admission
     requires { ⌜ AdmitAsked column bolt face measures ⌝ }
-    ensures { λ r. ⌜ (r ≡ firstFailing Admitted Refused (checksBefore 15 (refusalsAfter10 column bolt face))) × (length (face .levers) ≡ 8) ⌝ }
+    ensures { λ r. ⌜ (r ≡ firstFailing Admitted Refused (checksBefore 15 (refusalsAfter10 column bolt face))) × (length (face .levers) ≡ rowCounts .high) ⌝ }
 {
     let levers = face.levers;
     if !refusals::levers_fall(face.rows as usize, levers) {

@@ -10,7 +10,7 @@ use Rattle.arithmetic.specs.Checks.{Check}
 use Rattle.arithmetic.specs.Range.{within}
 use Rattle.arithmetic.proofs.Bounds.{within-either}
 use borrow.Author.Needs.{needs}
-use Rattle.joint.specs.Ranges.{levers}
+use Rattle.joint.specs.Ranges.{rowCounts, levers}
 use Rattle.joint.specs.Fields.{leverChecks}
 use Rattle.joint.specs.Steps.{foundBy}
 use Rattle.joint.proofs.Fields.{nothing-asked, part-stops, part-holds, next-lever, no-lever}
@@ -18,10 +18,10 @@ use Rattle.joint.proofs.check_levers.Statement.{statement}
 use Rattle.joint.proofs.check_levers.Tie as tie
 
 abbrev Inv-loop : tie.InvT-loop
-Inv-loop rows hs row₀ row = (row ≤ 8) × (foundBy (leverChecks rows row (drop row hs)) ≡ foundBy (leverChecks rows 0 hs))
+Inv-loop rows hs row₀ row = (row ≤ rowCounts .high) × (foundBy (leverChecks rows row (drop row hs)) ≡ foundBy (leverChecks rows 0 hs))
 
 abbrev μ-loop : tie.MeasureT-loop
-μ-loop rows hs row₀ row = 8 - row
+μ-loop rows hs row₀ row = rowCounts .high - row
 
 loop-holds : tie.Need-loop-holds Inv-loop μ-loop
 loop-holds c = (lit≤ tt, refl)
@@ -78,7 +78,7 @@ found : (c : tie.After-ranged Inv-loop μ-loop) → c .ranged .result ≡ foundB
 found c = rw (c .before .chosen2 .ensures, c .before .before .chosen .ensures, within-either) at (c .ranged .ensures [] nothing-asked)
 
 -- the levers that are left, of which the turn's is the first
-left : (c : tie.At-loop Inv-loop μ-loop) → c .loop .row < 8
+left : (c : tie.At-loop Inv-loop μ-loop) → c .loop .row < rowCounts .high
     → foundBy ((own c ∷ []) ++ below c) ≡ foundBy (leverChecks (start c .args .rows) 0 (start c .args .t2))
 left c more =
     let args = start c .args in

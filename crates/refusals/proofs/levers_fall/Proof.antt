@@ -4,6 +4,7 @@ use Prim.Native.Nat.{_-_, _<_}
 use native.Mathlib.Omega.{arith}
 use lib.ListN.{length, take, drop}
 use Rattle.arithmetic.specs.Table.{every}
+use Rattle.joint.specs.Ranges.{rowCounts}
 use Rattle.refusals.specs.Refusals.{belowAbove}
 use Rattle.refusals.proofs.Rows.{row-passes, row-fails, rows-end, below, not-below, first-passes}
 use Rattle.refusals.proofs.levers_fall.Statement.{statement}
@@ -13,7 +14,7 @@ abbrev Inv-loop : tie.InvT-loop
 Inv-loop rows levers row₀ row =
     (0 < row)
     × (every (belowAbove levers) 0 (take rows levers) ≡ every (belowAbove levers) row (drop row (take rows levers)))
-    × (length levers ≡ 8)
+    × (length levers ≡ rowCounts .high)
 
 abbrev μ-loop : tie.MeasureT-loop
 μ-loop rows levers row₀ row = rows - row

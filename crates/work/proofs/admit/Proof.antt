@@ -6,6 +6,7 @@ use borrow.Author.Needs.{needs}
 use borrow.Author.Tests.{not-true, not-false}
 use Rattle.arithmetic.specs.Checks.{checksBefore}
 use Rattle.arithmetic.proofs.Checks.{holds, fails, none-left}
+use Rattle.joint.specs.Ranges.{rowCounts}
 use Rattle.joint.proofs.InRange.{lever-most}
 use Rattle.strength.specs.Thickness.{bothTooThick}
 use Rattle.strength.proofs.Ranges.{steel-in-range}
@@ -37,7 +38,7 @@ fall : (c : tie.After-levers-fall) → c .levers-fall .result ≡ leversFall (fr
 unfolding leversFall
 fall c = c .levers-fall .ensures .0
 
-eight : (c : tie.After-levers-fall) → length (from-11 c .args .face .levers) ≡ 8
+eight : (c : tie.After-levers-fall) → length (from-11 c .args .face .levers) ≡ rowCounts .high
 eight c = c .levers-fall .ensures .1
 
 rows-in-place : (c : tie.After-rows-in-place) → c .rows-in-place .result ≡ rowsInPlace (from-12 c .args .face)
