@@ -17,8 +17,8 @@ use Rattle.arithmetic.specs.Checks.{Check}
 use Rattle.arithmetic.specs.Range.{Within, within, _to_}
 use Rattle.arithmetic.proofs.Checks.{all-hold}
 use Rattle.arithmetic.proofs.Bounds.{within-yes}
-use Rattle.joint.specs.Ranges.{rowCounts, flags, depths, widths, flanges, webs, radii, clears}
-use Rattle.joint.specs.Ranges.{plateWidths, thicknesses, gauges, edges, alphas, legs, weldLengths, shearRowCounts, loads, mostLever, levers}
+use Rattle.joint.specs.Ranges.{rowCounts, flags, depths, widths, flanges, webs, radii, clears, plateWidths, thicknesses}
+use Rattle.joint.specs.Ranges.{gauges, edges, alphas, legs, weldLengths, shearRowCounts, loads, mostLever, levers}
 use Rattle.joint.specs.Fields.{fieldCheck, fieldChecks, fixedChecks, leverChecks, withinBothSigns}
 use Rattle.joint.specs.InRange.{InRange, FaceInRange}
 use Rattle.joint.specs.declared.Column.{Column}

@@ -5,7 +5,8 @@ ghost use Prim.Native.Nat.{_*_, _/_, min};
 ghost use Rattle.arithmetic.specs.Range.{Within};
 ghost use Rattle.stubs.specs.Bending.{extensionLength};
 ghost use Rattle.stubs.specs.Worked.{stubOf, lengthsOf, lengthBy, bendingBy, webBy};
-ghost use Rattle.stubs.specs.InRange.{boltDistances, edgeDistances, StubParts, PatternParts, BendingParts, ExtensionParts, WebTensionParts};
+ghost use Rattle.stubs.specs.InRange.{boltDistances, edgeDistances};
+ghost use Rattle.stubs.specs.InRange.{StubParts, PatternParts, BendingParts, ExtensionParts, WebTensionParts};
 use arithmetic::least;
 
 // The column flange or the end plate as a T-stub: what of its bending is the same for every group.

@@ -42,13 +42,16 @@ admissible column face c f eight falling loose =
       falls = falls (face .levers) (face .rows) (omega (arith, eight, f .rows .high)) falling;
       column-m = ltb-false _ leastDistance (past-column .0);
       plate-m = ltb-false _ leastDistance (past-plate .0);
-      extension-m = λ extended. ltb-false _ leastDistance (ap (λ b. b && ltb mx leastDistance) (sym (eq-eqb (face .extended) 1 extended)) ∙ past-extension .0);
+      extension-m = λ extended.
+          ltb-false _ leastDistance
+          (ap (λ b. b && ltb mx leastDistance) (sym (eq-eqb (face .extended) 1 extended)) ∙ past-extension .0);
       column-edge = ltb-false _ leastEdge (edges .0);
       plate-edge = ltb-false _ leastEdge (edges .1);
     }
 
 -- the same of a face that is admitted
-pub admitted : (column : Column) (bolt : BoltStrengths) (face : Face) → ColumnInRange column → FaceInRange face → length (face .levers) ≡ rowCounts .high
+pub admitted : (column : Column) (bolt : BoltStrengths) (face : Face) → ColumnInRange column → FaceInRange face
+    → length (face .levers) ≡ rowCounts .high
     → firstFailing Admitted Refused (checksBefore 15 (refusalsAfter10 column bolt face)) ≡ Admitted → Admissible column face
 unfolding refusalsAfter10 checksBefore numbered positive
 admitted column bolt face c f eight e =

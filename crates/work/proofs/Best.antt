@@ -104,8 +104,8 @@ module _ (column : Column) (bolt : BoltStrengths) (face : Face) (a : Admissible 
       }
 
 -- a face that no refusal turns down
-of-face : (column : Column) (bolt : BoltStrengths) (face : Face) → ColumnInRange column → FaceInRange face → length (face .levers) ≡ rowCounts .high
-    → (answer : Outcome) → workedFace column bolt face ≡ answer → answer .refusal .number ≡ 0
+of-face : (column : Column) (bolt : BoltStrengths) (face : Face) → ColumnInRange column → FaceInRange face
+    → length (face .levers) ≡ rowCounts .high → (answer : Outcome) → workedFace column bolt face ≡ answer → answer .refusal .number ≡ 0
     → Demand3 column bolt face (answer .result .forces) (answer .result .verdicts .bending)
 unfolding refusalsAfter10 numbered capOf
 of-face column bolt face c f eight answer e none =

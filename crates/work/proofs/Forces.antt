@@ -27,8 +27,8 @@ unfolding eightPlaces
 rows-kept n limit =
     take-at (shared limit n) (replicate (rowCounts .high - length (shared limit n)) 0) n (best limit n .competes .rows)
 
-module _ (n cap : ℕ) (limit : Table) (entry table : List ℕ) (filled : TableFilled n limit entry table) (some : 1 ≤ n) (few : n ≤ rowCounts .high)
-    (stored : ℕ) (lower : stored ≡ min (getD table (n - 1) 0) cap) where
+module _ (n cap : ℕ) (limit : Table) (entry table : List ℕ) (filled : TableFilled n limit entry table) (some : 1 ≤ n)
+    (few : n ≤ rowCounts .high) (stored : ℕ) (lower : stored ≡ min (getD table (n - 1) 0) cap) where
   -- the place of group 1 to n
   whole : groupsAbove n 0 + ((n - 1) - 0) ≡ n - 1
   unfolding groupsAbove

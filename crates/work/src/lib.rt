@@ -106,7 +106,8 @@ fn measures_of(column: Column, face: Face) -> Measures
 // The refusals between 10 and 15.
 fn admit(column: Column, bolt: BoltStrengths, face: Face, measures: Measures) -> Admission
     requires { ⌜ AdmitAsked column bolt face measures ⌝ }
-    ensures { λ r. ⌜ (r ≡ firstFailing Admitted Refused (checksBefore 15 (refusalsAfter10 column bolt face))) × (length (face .levers) ≡ rowCounts .high) ⌝ }
+    ensures { λ r. ⌜ r ≡ firstFailing Admitted Refused (checksBefore 15 (refusalsAfter10 column bolt face)) ⌝ }
+    ensures { λ _. ⌜ length (face .levers) ≡ rowCounts .high ⌝ }
 {
     let levers = face.levers;
     if !refusals::levers_fall(face.rows as usize, levers) {
@@ -127,7 +128,8 @@ fn admit(column: Column, bolt: BoltStrengths, face: Face, measures: Measures) ->
 // A face that those let pass: refused by 15 where N leaves no cap, and else worked whole.
 fn work_admitted(column: Column, bolt: BoltStrengths, face: Face, measures: Measures) -> Outcome
     requires { ⌜ AdmittedFace column bolt face measures ⌝ }
-    ensures { λ r. ⌜ r ≡ firstFailing (completed (resultOf column bolt face)) refusedFace (checksFrom 15 (refusalsAfter10 column bolt face)) ⌝ }
+    ensures { λ r. ⌜ r
+        ≡ firstFailing (completed (resultOf column bolt face)) refusedFace (checksFrom 15 (refusalsAfter10 column bolt face)) ⌝ }
 {
     let check = governing_of(column, face, measures.steel);
     let cap_case = governing::tension_cap(governing::force_of(check), face.loads);
