@@ -1,4 +1,4 @@
--- What Allocate answers for a count and a list of limits (document 01, 'Allocate').
+-- What Allocate answers for a count and a list of limits (rules 10).
 -- Assumes nothing.
 use Prim.Native.Nat.{ℕ}
 use mathlib.Core.Bool.{Bool, true, _&&_}
@@ -13,17 +13,16 @@ use Rattle.sharing.specs.Groups.{groupCount, listed, mostLimit}
 use Rattle.sharing.specs.Sharing.{shared}
 use Rattle.allocation.specs.declared.Allocation.{Allocation}
 
--- 'One of those above 4000000000' is what makes it false.
+-- rule 10.2: whether none of them is above the most that is taken
 unfoldable pub noneAbove : ℕ → List ℕ → Bool
 noneAbove most [] = true
 noneAbove most (limit ∷ limits) = leb limit most && noneAbove most limits
 
--- 'Those past n are 0, and in a refusal all are.'
+-- rule 10.3: in a refusal all eight places are 0
 abbrev pub refusedAllocation : ℕ → Allocation
 refusedAllocation number = record { refusal = number; forces = replicate 8 0 }
 
--- '3 as above; 7 fewer than n(n+1)÷2 limits; 8 one of those above 4000000000. Further limits aren't looked at': each number with the test
--- that lets the limits pass.
+-- rule 10.2: each refusal's number with the test that lets the limits pass, in order; further limits aren't looked at
 unfoldable pub allocateRefusals : ℕ → List ℕ → List Check
 unfolding noneAbove
 allocateRefusals n limits =

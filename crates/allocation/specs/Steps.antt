@@ -1,4 +1,4 @@
--- What the steps of sharing require and leave behind: nothing here is document 01's.
+-- What the steps of sharing require and leave behind: nothing here states a rule.
 -- Assumes nothing.
 use mathlib.Core.Path.{_≡_}
 use Prim.Native.Nat.{ℕ, _+_, _≤_, _<_, min}

@@ -1,5 +1,5 @@
-// Allocate: limits of row groups become row forces (document 01, 'Sharing the force' and 'Allocate').
-// Rows count from 0 here, from 1 in document 01.
+// Allocate: limits of row groups become row forces (rules 6 and 10).
+// Rows count from 0 here, from 1 in the rules.
 ghost use mathlib.Core.Path.{_≡_};
 ghost use lib.ListN.{take};
 ghost use Rattle.joint.specs.Places.{eightPlaces};
@@ -14,7 +14,7 @@ use arithmetic::least;
 const MOST: u64 = 4_000_000_000;
 
 pub struct Allocation {
-    // document 01's number, 0 when nothing is refused
+    // the refusal's number, 0 when nothing is refused
     pub refusal: u32,
     // newtons, row 1 first; 0 past the last row, and everywhere in a refusal
     pub forces: [u64; 8],

@@ -1,4 +1,4 @@
--- Checks in the papers' order, each with its number, and the first that fails: how the fields of a joint are checked, and how Work's
+-- Checks in the order of the rules, each with its number, and the first that fails: how the fields of a joint are checked, and how Work's
 -- refusals are tried. A list may be tried in two parts, cut at a number. Assumes nothing.
 use Prim.Native.Nat.{ℕ}
 use mathlib.Core.Bool.{Bool, cond}

@@ -1,4 +1,4 @@
--- What the crates state document 01 with: numbered checks and the first that fails, ranges, small tables, and the greatest number that
+-- What the crates state the rules with: numbered checks and the first that fails, ranges, small tables, and the greatest number that
 -- passes a test.
 pub mod Checks
 pub mod Range

@@ -1,4 +1,4 @@
--- A range of whole numbers as document 01 writes it, both ends included: as a test, and as a fact with its two halves named.
+-- A range of whole numbers, both ends included: as a test, and as a fact with its two halves named.
 -- Assumes nothing.
 use Prim.Native.Nat.{ℕ, _≤_}
 use mathlib.Core.Bool.{Bool, _&&_}

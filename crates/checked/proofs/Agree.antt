@@ -1,4 +1,4 @@
--- Every checked joint comes out as document 01 states it.
+-- Every checked joint comes out as stated.
 -- Both sides are computed, with every definition on the way open. Assumes nothing.
 use mathlib.Core.Path.{_≡_, refl}
 use mathlib.Core.List.{map}

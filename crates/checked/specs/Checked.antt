@@ -1,4 +1,4 @@
--- The checked joints of document 01: for each, what the definitions give and what the paper states.
+-- The checked joints of rules 14: for each, what the definitions give and what it is stated to be.
 -- Assumes nothing.
 use Prim.Native.Nat.{ℕ}
 use mathlib.Core.Bool.{cond}
@@ -153,7 +153,7 @@ checked-I = record {
       ∷ 32 ∷ 52 ∷ 48 ∷ 55 ∷ 55 ∷ 48 ∷ 54 ∷ 32 ∷ 75 ∷ 32 ∷ 80 ∷ 32 ∷ 80 ∷ 32 ∷ 80 ∷ 32 ∷ 80 ∷ 10 ∷ [];
 }
 
--- 'N 407706 gives force 0; 407707 gives 15': refusal, then the first row's force
+-- N at the governing force and a newton above it: refusal, then the first row's force
 pushed : ℤ → List ℕ
 pushed axial = let outcome = worked (joint-I axial) in outcome .refusal .number ∷ take 1 (outcome .result .forces)
 

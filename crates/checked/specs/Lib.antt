@@ -1,2 +1,2 @@
--- Document 01's checked joints A to I, as one table.
+-- The checked joints A to I of rules 14, as one table.
 pub mod Checked

@@ -1,1 +1,1 @@
-// The checked joints of document 01, as one table about the definitions. No code: see specs/ and proofs/.
+// The checked joints of rules 14, as one table about the definitions. No code: see specs/ and proofs/.

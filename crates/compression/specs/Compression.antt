@@ -1,4 +1,4 @@
--- Document 01, 'Compression and the tension cap', to 'Panel shear': the four resistances in newtons. yc and yb stand for `steel .column`
+-- The four resistances of the compression side, in newtons (rules 5.1 to 5.5). yc and yb stand for `steel .column`
 -- and `steel .beam`. Assumes nothing.
 use Prim.Native.Nat.{ℕ, _+_, _*_, _/_, _^_, _≤_}
 use Rattle.arithmetic.specs.Greatest.{Greatest, greatest}
@@ -9,14 +9,16 @@ use Rattle.joint.specs.declared.Welds.{Welds}
 use Rattle.strength.specs.declared.SteelStrengths.{SteelStrengths}
 use Rattle.compression.specs.declared.Resistances.{Resistances}
 
--- b
+-- rule 5.1: b
 unfoldable pub bearingLength : Column → Beam → Plate → Welds → ℕ
 bearingLength column beam plate welds =
     beam .flange + 2 * welds .flange + 2 * plate .thickness + 5 * (column .flange + column .radius)
 
+-- rule 5.2
 unfoldable pub beamFlange : (yb : ℕ) → Beam → ℕ
 beamFlange yb beam = 7 * yb * beam .flange * beam .width / 500
 
+-- rule 5.3
 unfoldable pub webBearing : (b yc : ℕ) → Column → ℕ
 webBearing b yc column = b * column .web * yc / 100
 
@@ -24,7 +26,7 @@ webBearing b yc column = b * column .web * yc / 100
 unfoldable pub bucklingLimit : (b yc : ℕ) → Column → ℕ
 bucklingLimit b yc column = 275 * b * yc * column .web ^ 4
 
--- the greatest w with 16×dc×w² at most that: what makes a number web buckling
+-- rule 5.4: the greatest w with 16×dc×w² at most that is web buckling
 abbrev pub IsWebBuckling : (b yc : ℕ) → Column → ℕ → Type 0
 IsWebBuckling b yc column = Greatest (λ (w : ℕ). 16 * column .clear * (w * w) ≤ bucklingLimit b yc column)
 
@@ -32,6 +34,7 @@ IsWebBuckling b yc column = Greatest (λ (w : ℕ). 16 * column .clear * (w * w)
 unfoldable pub webBuckling : (b yc : ℕ) → Column → ℕ
 webBuckling b yc column = greatest 32 (λ (w : ℕ). 16 * column .clear * (w * w)) (bucklingLimit b yc column)
 
+-- rule 5.5
 unfoldable pub panelShear : (yc : ℕ) → Column → ℕ
 panelShear yc column = 3 * yc * column .web * column .depth / 500
 

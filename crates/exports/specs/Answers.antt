@@ -1,10 +1,10 @@
--- What an exported call answers, and what it leaves in all that it was lent. Here stands demand 1 of the calls: but for the answer 0,
+-- What an exported call answers, and what it leaves in all that it was lent. Rule 13.2, demand 1 of the calls: but for the answer 0,
 -- what was lent is as it was. Assumes nothing.
 use Prim.Native.Nat.{ℕ, _+_, _*_}
 use mathlib.Core.Bool.{Bool, cond}
 use lib.Dec.{eqb}
 
--- a refusal as one number: document 01's number, and the field for 10; 0 is no refusal
+-- rule 13.1: a refusal as one number, its own and the field of 10 times 256; 0 is no refusal
 abbrev pub answerNumber : (number field : ℕ) → ℕ
 answerNumber number field = number + 256 * field
 

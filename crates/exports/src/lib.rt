@@ -1,7 +1,7 @@
-// The calls as C and Rust see them: over numbers and lent slices. A joint is `JOINT_WORDS` words of 32 bits, document 01's fields in file
+// The calls as C and Rust see them: over numbers and lent slices. A joint is `JOINT_WORDS` words of 32 bits, its fields in file
 // order and all eight levers; N is its two's complement. A face's result is `RESULT_WORDS` words of 64 bits.
 //
-// An answer tells all of a refusal in its parts: document 01's number in the lowest 8 bits, and the field, for 10, times 256. 0 is no
+// An answer tells all of a refusal in its parts: its number in the lowest 8 bits, and the field, for 10, times 256. 0 is no
 // refusal; 100 says that a lent slice is too short to hold a joint or a result, and 101, of the sheet alone, that the output has no room
 // for all lines. Whatever the answer is but 0, every slice and place is as it was. The sheet's refusals are its lines: they are printed,
 // `R 4` too, and answered 0.

@@ -1,4 +1,4 @@
--- The fields before the levers in file order (document 01, the list of the joint's fields; of field 27, Read on N): the joint that has
+-- The fields before the levers in file order (rules 2.1 and 9.2; of field 27, rule 9.1): the joint that has
 -- them, and those of a joint. Assumes nothing.
 use Prim.Native.Nat.{ℕ, _+_, _-_, _*_, _/_, _%_}
 use mathlib.Core.List.{List, [], _∷_}
@@ -25,7 +25,7 @@ storedAxial (negsuc n) = 2 * n + 1
 unfoldable pub axialOf : ℕ → ℤ
 axialOf x = cond (eqb (x % 2) 0) (pos (x / 2)) (negsuc (x / 2))
 
--- how many fields stand before the levers: document 01's 1 to 29
+-- how many fields stand before the levers: 1 to 29
 abbrev pub fieldCount : ℕ
 fieldCount = 29
 

@@ -1,2 +1,2 @@
--- Document 01's own: the order of a joint's fields in its file, the joint that has them, and those of a joint.
+-- Rule 9.2: the order of a joint's fields in its file, the joint that has them, and those of a joint.
 pub mod Fields

@@ -1,4 +1,4 @@
-// A joint's fields before the levers, in file order: the joint that has them, and those of a joint. Field k of document 01 stands at
+// A joint's fields before the levers, in file order: the joint that has them, and those of a joint. Field k stands at
 // place k - 1.
 use joint::Beam;
 use joint::Bolts;
@@ -15,7 +15,7 @@ ghost use lib.ListN.{length};
 ghost use Rattle.fields.specs.Fields.{fieldCount, axialOf, storedAxial, columnOf, boltsOf, beamOf, plateOf, layoutOf, weldsOf};
 ghost use Rattle.fields.specs.Fields.{loadsOf, faceOf, jointOf, fieldsOf};
 
-// How many fields stand before the levers: document 01's 1 to 29.
+// How many fields stand before the levers: 1 to 29.
 pub const FIELD_COUNT: usize = 29;
 
 // The axial force that a number of the file stands for.

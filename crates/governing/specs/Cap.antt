@@ -1,4 +1,4 @@
--- The tension cap and refusal 15 (document 01, 'Compression and the tension cap' and 'Work'). The cap has a sign: where N is above the
+-- The tension cap and refusal 15 (rules 5.7 and 11.7). The cap has a sign: where N is above the
 -- governing force it is below 0, and 15 answers. Assumes nothing.
 use Prim.Native.Nat.{ℕ}
 use mathlib.Core.Bool.{Bool}
@@ -6,11 +6,11 @@ use lib.IntN.{ℤ, pos, negsuc, _-ℤ_}
 use lib.Signed.{ltZ}
 use Rattle.joint.specs.declared.Loads.{Loads}
 
--- 'The cap is that force less N.'
+-- rule 5.7: the governing force less N
 unfoldable pub tensionCap : Loads → (force : ℕ) → ℤ
 tensionCap loads force = pos force -ℤ loads .axial
 
--- 15 'N above the governing compression force'
+-- rule 11.7, refusal 15: N is above the governing force
 unfoldable pub overCompressed : Loads → (force : ℕ) → Bool
 overCompressed loads force = ltZ (pos force) (loads .axial)
 

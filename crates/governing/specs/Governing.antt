@@ -1,5 +1,4 @@
--- Document 01, 'Compression and the tension cap': 'The first least of these four governs, and the result names which kind of compression
--- check it is, with its force.' Assumes nothing.
+-- Rule 5.6: the compression check that governs, with its force. Assumes nothing.
 use Prim.Native.Nat.{ℕ}
 use mathlib.Core.Bool.{cond}
 use mathlib.Core.List.{List, [], _∷_}
@@ -22,6 +21,7 @@ abbrev pub firstLeast : CompressionCheck → List CompressionCheck → Compressi
 firstLeast found [] = found
 firstLeast found (check ∷ checks) = firstLeast (lesser found check) checks
 
+-- rule 5.6: the first least of the four, in this order
 unfoldable pub governingCheck : Resistances → CompressionCheck
 governingCheck resistances =
     firstLeast (Flange (resistances .flange))

@@ -1,4 +1,4 @@
-// Which of the four compression resistances governs, and the tension cap that it leaves (document 01, 'Compression and the tension cap').
+// Which of the four compression resistances governs, and the tension cap that it leaves (rules 5.6 and 5.7).
 ghost use mathlib.Core.Path.{_≡_};
 ghost use Prim.Native.Nat.{_≤_};
 ghost use Rattle.joint.specs.InRange.{LoadsInRange};

@@ -1,2 +1,2 @@
--- How the answer of a read of the standard input is taken. Nothing here is document 01's. Assumes nothing.
+-- How the answer of a read of the standard input is taken (rule 13.4). Assumes nothing.
 pub mod Reads

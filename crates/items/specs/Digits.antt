@@ -1,4 +1,4 @@
--- A number as text, in base ten (document 01: 'All figures are in base ten'): no leading zeros, and one digit for 0.
+-- A number as text, in base ten (rule 12.1): no leading zeros, and one digit for 0.
 -- Assumes nothing.
 use Prim.Native.Nat.{ℕ, zero, suc, _+_, _/_, _%_}
 use mathlib.Core.List.{List, [], _∷_, _++_}

@@ -1,4 +1,4 @@
--- What an item of a line is: the digits of a number, a letter, and the space before each. Both files state document 01; nothing here serves
+-- What an item of a line is: the digits of a number, a letter, and the space before each. Both files state rule 12.1; nothing here serves
 -- the code alone. Assumes nothing.
 pub mod Digits
 pub mod Items

@@ -4,7 +4,7 @@ use lib.IntN.{ℤ, pos, negsuc}
 use Rattle.joint.specs.declared.AxialForce.{AxialForce}
 use Rattle.joint.specs.declared.AxialForce.the-variants.{Compression, Tension}
 
--- 'newtons, compression positive'; `negsuc n` is −(n + 1)
+-- rule 2.1, field 27: compression is positive; `negsuc n` is −(n + 1)
 unfoldable pub axialForce : ℤ → AxialForce
 axialForce (pos n) = Compression n
 axialForce (negsuc n) = Tension (suc n)

@@ -1,4 +1,4 @@
--- Document 01, 'The joint's fields, in file order', and Work's refusal 10: each field's number with the test that it is in range, and the
+-- Rules 2.1 and 11.2, Work's refusal 10: each field's number with the test that it is in range, and the
 -- first that fails. The list has fields 1 to 37, the eight levers with those that the file leaves out. Assumes nothing.
 use Prim.Native.Nat.{ℕ, suc, _+_}
 use mathlib.Core.Bool.{Bool, _&&_}
@@ -82,7 +82,7 @@ abbrev pub loadChecks : Loads → List Check
 loadChecks forces =
     (27, withinBothSigns (forces .axial)) ∷ (28, within loads (forces .shear)) ∷ (29, within loads (forces .moment)) ∷ []
 
--- 29+k for row k of the paper: 30 and on for the levers from `row`, which counts from 0
+-- 29 + k for row k, which counts from 1: 30 and on for the levers from `row`, which counts from 0
 unfoldable pub leverChecks : (n row : ℕ) → List ℕ → List Check
 leverChecks n row [] = []
 leverChecks n row (h ∷ hs) = (30 + row, within (levers n row) h) ∷ leverChecks n (suc row) hs

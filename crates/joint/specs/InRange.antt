@@ -1,4 +1,4 @@
--- Fields that are all in document 01's ranges, part by part and by name: what every crate above requires of them.
+-- Fields that are all in their ranges (rule 2.1), part by part and by name: what every crate above requires of them.
 -- Assumes nothing.
 use Prim.Native.Nat.{ℕ, _<_}
 use lib.Dec.{T}

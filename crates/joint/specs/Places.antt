@@ -1,5 +1,5 @@
--- Eight places for the numbers of at most eight rows. Document 01 of a joint's levers: 'spare levers up to eight are 0'; of Allocate's
--- forces: 'the answer has eight places; those past n are 0'. Assumes nothing.
+-- Eight places for the numbers of at most eight rows: a joint's levers (rule 2.2) and the forces of an answer (rule 10.3).
+-- Assumes nothing.
 use Prim.Native.Nat.{ℕ, _-_}
 use mathlib.Core.List.{List, _++_}
 use lib.ListN.{length, replicate}

@@ -1,4 +1,4 @@
--- Document 01, 'The joint's fields, in file order': the range of each field, both ends included, in the paper's order.
+-- Rule 2.1: the range of each field, both ends included, in the order of the fields.
 -- Assumes nothing.
 use Prim.Native.Nat.{ℕ}
 use mathlib.Core.Bool.{cond}

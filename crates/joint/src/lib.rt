@@ -1,5 +1,5 @@
 // A joint: a beam on a column flange through an end plate. The fields are grouped by what a second beam on the other
-// face would share. Each comment gives document 01's field number and unit; lengths are in tenths of a millimetre.
+// face would share. Each comment gives the field's number (rule 2.1) and unit; lengths are in tenths of a millimetre.
 ghost use mathlib.Core.Path.{_≡_};
 ghost use mathlib.Core.Bool.{cond};
 ghost use Rattle.arithmetic.specs.Range.{within, _to_};
@@ -130,7 +130,7 @@ pub fn axial_force(axial: i32) -> AxialForce
     }
 }
 
-// What checking a joint's fields finds: document 01's refusal 10 is `Outside`, with the first such field's number.
+// What checking a joint's fields finds: refusal 10 is `Outside`, with the first such field's number.
 pub enum FieldCheck {
     AllInRange,
     Outside(u32),

@@ -1,4 +1,4 @@
--- Reading a joint file (document 01, Read): field 1, the other fields and a lever for each row, one number after another, with the
+-- Reading a joint file (rules 9.3 to 9.5): field 1, the other fields and a lever for each row, one number after another, with the
 -- refusal of the first trouble; and what is left after it. Assumes nothing.
 use Prim.Native.Nat.{ℕ, _-_}
 use mathlib.Core.List.{List, [], _∷_}

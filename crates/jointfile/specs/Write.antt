@@ -1,4 +1,4 @@
--- Writing a joint file (document 01, Write): the file of a joint, what is refused in which order, and what the buffer holds afterwards.
+-- Writing a joint file (rules 9.2 and 9.6): the file of a joint, what is refused in which order, and what the buffer holds afterwards.
 -- Assumes nothing.
 use Prim.Native.Nat.{ℕ}
 use mathlib.Core.List.{List, [], _∷_, _++_}
@@ -19,7 +19,7 @@ fileOf fields rows levers = storedAll (fields ++ take rows levers)
 abbrev pub file : Joint → List ℕ
 file joint = fileOf (fieldsOf joint) (joint .face .rows) (joint .face .levers)
 
--- What writing gives: document 01's refusal number or 0, the file's length or 0, and the buffer at exit.
+-- What writing gives: the refusal's number or 0, the file's length or 0, and the buffer at exit.
 pub record Writing : Type 0 where
   pub refusal : ℕ
   pub size : ℕ
@@ -47,7 +47,7 @@ roomCheck bytes buffer = (5, leb (length bytes) (length buffer))
 abbrev pub tried : (bytes buffer : List ℕ) → List Check → Writing
 tried bytes buffer checks = firstFailing (wrote buffer bytes) (turnedDown buffer) checks
 
--- they are tried in the paper's order
+-- rule 9.6: they are tried in this order
 unfoldable pub writing : Joint → List ℕ → Writing
 writing joint buffer =
     let face = joint .face in

@@ -29,7 +29,7 @@ ghost use Rattle.jointfile.specs.Answers.{writtenMeaning, writingIfRoom,
 
 // What `read` answers.
 pub struct Reading {
-    // document 01's refusal number, or 0
+    // the refusal's number, or 0
     pub refusal: u32,
     // the joint, or one whose every field is 0 in a refusal
     pub joint: Joint,
@@ -97,7 +97,7 @@ pub fn rest(bytes: &[u8]) -> &[u8]
     &bytes[next..]
 }
 
-// What `write` answers: the file's length, or document 01's refusal number.
+// What `write` answers: the file's length, or the refusal's number.
 pub enum Written {
     Length(usize),
     Refused(u32),

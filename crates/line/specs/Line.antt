@@ -1,4 +1,4 @@
--- The lines of the sheet (document 01, 'Sheet program', and checked joint I): a joint's result, a work refusal, a read refusal.
+-- The lines of the sheet (rules 12.2 to 12.4): a joint's result, a work refusal, a read refusal.
 -- Assumes nothing.
 use Prim.Native.Nat.{ℕ, min}
 use mathlib.Core.List.{List, [], _∷_, _++_, map}
@@ -17,18 +17,18 @@ use Rattle.items.specs.Items.{Item, letter, spaced}
 abbrev pub lineOf : Item → List Item → List ℕ
 lineOf first others = first ++ (spaced others ++ (10 ∷ []))
 
--- '(F flange, B bearing, K buckling, S panel)'
+-- rule 12.2: F beam flange, B web bearing, K web buckling, S panel shear
 abbrev pub checkLetter : CompressionCheck → ℕ
 checkLetter (Flange force) = 70
 checkLetter (Bearing force) = 66
 checkLetter (Buckling force) = 75
 checkLetter (Panel force) = 83
 
--- 'P or F'
+-- rule 12.2: P passes, F fails
 abbrev pub verdictLetter : Bool → ℕ
 verdictLetter passes = cond passes 80 70
 
--- the governing check, 'then bending, bolts, flange weld, web weld'
+-- the governing check, then bending, bolts, flange weld, web weld
 abbrev pub lettersOf : FaceResult → List ℕ
 lettersOf result =
     checkLetter (result .check)
@@ -38,7 +38,7 @@ lettersOf result =
     ∷ verdictLetter (result .verdicts .«web_weld»)
     ∷ []
 
--- 'sum, newton metres, cap'
+-- sum, newton metres, cap
 abbrev pub figuresOf : FaceResult → List ℕ
 figuresOf result = result .sum ∷ result .«newton_metres» ∷ result .cap ∷ []
 
@@ -46,17 +46,17 @@ figuresOf result = result .sum ∷ result .«newton_metres» ∷ result .cap ∷
 abbrev pub rowForces : (rows : ℕ) → List ℕ → List ℕ
 rowForces rows forces = take (min rows 8) forces
 
--- 'joint, rows, forces, sum, newton metres, cap, governing check', and the verdicts
+-- rule 12.2: joint, rows, forces, figures and letters
 unfoldable pub resultLine : (number rows : ℕ) → FaceResult → List ℕ
 resultLine number rows result =
     lineOf (decimal number)
     (map decimal (rows ∷ rowForces rows (result .forces)) ++ (map decimal (figuresOf result) ++ map letter (lettersOf result)))
 
--- 'joint number, R, number', and whatever else the refusal shows
+-- rules 12.3 and 12.4: joint, R, the refusal's number, and whatever else it shows
 unfoldable pub refusalLine : (number : ℕ) (items : List ℕ) → List ℕ
 refusalLine number items = lineOf (decimal number) (letter 82 ∷ map decimal items)
 
--- 'number (and field for 10)'
+-- rule 12.3: the number, and for 10 the field
 unfoldable pub refusalItems : Refusal → List ℕ
 refusalItems refusal = cond (eqb (refusal .number) 10) (refusal .number ∷ refusal .field ∷ []) (refusal .number ∷ [])
 

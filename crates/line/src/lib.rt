@@ -1,4 +1,4 @@
-// Lines of the sheet (document 01, 'Sheet program'): what working a joint came to, and what a joint that can't be read was refused for,
+// Lines of the sheet (rules 12.2 to 12.4): what working a joint came to, and what a joint that can't be read was refused for,
 // each measured, and put into a lent buffer. What is open here is so for the crate of the sheet, which shows that there is room for
 // what it puts.
 use governing::CompressionCheck;

@@ -15,7 +15,7 @@ use Rattle.numbers.specs.declared.run.Run.the-variants.{Next, Refused as
 
 -- ---- a number
 
--- What each case of the enum `Number` means: the value with the bytes from the next place on, or document 01's refusal.
+-- What each case of the enum `Number` means: the value with the bytes from the next place on, or the refusal's number.
 abbrev pub numberMeaning : List ℕ → Number → Parse ℕ
 numberMeaning bytes (Value x next) = got x (drop next bytes)
 numberMeaning bytes (Refused r) = refused r
@@ -25,7 +25,7 @@ abbrev pub nextPlace : Number → ℕ
 nextPlace (Value x next) = next
 nextPlace (Refused r) = 0
 
--- document 01's number of a refusal, and 0 of a number
+-- the number of a refusal, and 0 of a number
 abbrev pub refusalNumber : Number → ℕ
 refusalNumber (Value x next) = 0
 refusalNumber (Refused r) = r
@@ -47,7 +47,7 @@ abbrev pub endPlace : Run → ℕ
 endPlace (Next next) = next
 endPlace (RunRefused r) = 0
 
--- document 01's number of a refusal, and 0 of a run that was read
+-- the number of a refusal, and 0 of a run that was read
 abbrev pub runRefusal : Run → ℕ
 runRefusal (Next next) = 0
 runRefusal (RunRefused r) = r

@@ -1,4 +1,4 @@
--- Numbers of a joint file (document 01, Read, on numbers and on refusals 1 and 2): the stored form of a number, and what reading one
+-- Numbers of a joint file (rules 9.1 and 9.3): the stored form of a number, and what reading one
 -- gives. Both go group by group from the lowest. Assumes nothing.
 use Prim.Native.Nat.{ℕ, zero, suc, _+_, _-_, _*_, _/_, _%_, _<_}
 use mathlib.Core.List.{List, [], _∷_}

@@ -1,4 +1,4 @@
--- What reading gives: what was read with the bytes after it, or the number of document 01's refusal; and how one thing is read after
+-- What reading gives: what was read with the bytes after it, or the refusal's number; and how one thing is read after
 -- another. Assumes nothing.
 use Prim.Native.Nat.{ℕ}
 use mathlib.Core.List.{List}

@@ -1,4 +1,4 @@
--- Runs of numbers (document 01, Read and Write): so many read one after another, and their stored forms one after another.
+-- Runs of numbers (rules 9.2 and 9.3): so many read one after another, and their stored forms one after another.
 -- Assumes nothing.
 use Prim.Native.Nat.{ℕ, zero, suc}
 use mathlib.Core.List.{List, [], _∷_, _++_}

@@ -6,7 +6,7 @@ ghost use Rattle.buffers.specs.Put.{Put};
 ghost use Rattle.numbers.specs.Number.{stored};
 ghost use Rattle.numbers.specs.Answers.{NumberRead, refusalNumber};
 
-// What reading a number answers: its value with the place after its last byte, or document 01's refusal number.
+// What reading a number answers: its value with the place after its last byte, or the refusal's number.
 pub enum Number {
     Value { value: u32, next: usize },
     Refused(u32),

@@ -11,7 +11,7 @@ pub struct Verdicts {
 
 // What a joint was refused for.
 pub struct Refusal {
-    // document 01's number, 0 when nothing is refused
+    // the refusal's number, 0 when nothing is refused
     pub number: u32,
     // the first field out of range, with refusal 10; else 0
     pub field: u32,

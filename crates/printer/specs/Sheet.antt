@@ -1,4 +1,4 @@
--- The sheet (document 01, 'Sheet program') as a definition on bytes: joint files end to end in, lines out. Assumes nothing.
+-- The sheet (rules 12) as a definition on bytes: joint files end to end in, lines out. Assumes nothing.
 use Prim.Native.Nat.{ℕ, zero, suc, _+_}
 use mathlib.Core.List.{List, [], _∷_, _++_}
 use mathlib.Core.Bool.{cond}
@@ -19,12 +19,12 @@ Line = List ℕ
 abbrev pub jointLine : (number : ℕ) → Joint → Line
 jointLine number joint = outcomeLine number (joint .face .rows) (worked joint)
 
--- 'A work refusal prints .. and goes on; a read refusal prints .. and ends it': the line of a joint, with those of the bytes left.
+-- rules 12.3 and 12.4: the line of a joint that was read with those of the bytes left, or the line of one that wasn't, which is the last
 abbrev pub lineThen : (others : List ℕ → List Line) (number : ℕ) → Parse Joint → List Line
 lineThen others number (got joint left) = jointLine number joint ∷ others left
 lineThen others number (refused r) = refusalLine number (r ∷ []) ∷ []
 
--- The lines of joint files end to end, the first of them joint `number`; at most so many. 'No input prints nothing.'
+-- The lines of joint files end to end, the first of them joint `number`; at most so many. No input has none.
 unfoldable pub linesWithin : (most number : ℕ) (bytes : List ℕ) → List Line
 linesWithin zero number bytes = []
 linesWithin (suc most) number [] = []
@@ -34,15 +34,15 @@ linesWithin (suc most) number (byte ∷ bytes) = lineThen (linesWithin most (num
 abbrev pub linesOf : (number : ℕ) (bytes : List ℕ) → List Line
 linesOf number bytes = linesWithin (length bytes) number bytes
 
--- 'only `R 4`'
+-- rule 12.5: `R 4`
 abbrev pub overLong : Line
 overLong = lineOf (letter 82) (decimal 4 ∷ [])
 
--- '4: over 65536 bytes'
+-- rule 12.5: no more bytes are taken
 abbrev pub mostInput : ℕ
 mostInput = 65536
 
--- `R 4` alone where the input is longer than that; 'Joints count from 1'
+-- rules 12.1 and 12.5: `R 4` alone where the input is longer than that; else joints count from 1
 unfoldable pub sheetLines : (bytes : List ℕ) → List Line
 sheetLines bytes = cond (ltb mostInput (length bytes)) (overLong ∷ []) (linesOf 1 bytes)
 

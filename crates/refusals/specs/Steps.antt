@@ -1,4 +1,4 @@
--- What the tests rely on, from fields in range: nothing here is document 01's. Assumes nothing.
+-- What the tests rely on, from fields in range: nothing here states a rule. Assumes nothing.
 use Prim.Native.Nat.{ℕ, _≤_}
 use lib.ListN.{getD}
 use Rattle.arithmetic.specs.Range.{Within}

@@ -1,5 +1,5 @@
--- Row groups and tables of their limits (document 01, 'Group limits' and 'Allocate').
--- Rows count from 0 here and in the code, from 1 in document 01 and in print: group 1–3 there is rows 0 to 2 here.
+-- Row groups and tables of their limits (rules 1.3, 6.3 and 10.1).
+-- Rows count from 0 here and in the code, from 1 in the rules and in print: group 1–3 there is rows 0 to 2 here.
 -- Assumes nothing.
 use Prim.Native.Nat.{ℕ, zero, suc, _+_, _-_, _*_, _/_, min}
 use mathlib.Core.Bool.{cond, _&&_}
@@ -19,16 +19,16 @@ total (x ∷ xs) = x + total xs
 unfoldable pub groupSum : List ℕ → ℕ → ℕ → ℕ
 groupSum forces i j = total (take (suc j - i) (drop i forces))
 
--- The cap 'joins the limits as one on group 1 to n'.
+-- rule 6.3: the cap joins the limits, as one on the group of all rows
 unfoldable pub withCap : Table → ℕ → ℕ → Table
 withCap limit n cap i j = cond (eqb i 0 && eqb (suc j) n) (min (limit i j) cap) (limit i j)
 
--- 'Group 1–1, 1–2, .. 1–n, 2–2 and so on': how many groups stand before those that begin at row i.
+-- rule 10.1's order, 1–1, 1–2, .. 1–n, 2–2 and so on: how many groups stand before those that begin at row i
 unfoldable pub groupsAbove : ℕ → ℕ → ℕ
 groupsAbove n zero = 0
 groupsAbove n (suc i) = groupsAbove n i + (n - i)
 
--- 'n(n+1)÷2'
+-- how many groups n rows have
 unfoldable pub groupCount : ℕ → ℕ
 groupCount n = n * (n + 1) / 2
 

@@ -1,4 +1,4 @@
--- How limits become row forces, which lists of forces compete, and the moment of a list (document 01, 'Sharing the force').
+-- How limits become row forces, which lists of forces compete, and the moment of a list (rules 6, and 7.1 for a table).
 -- Every definition is over any count of rows n, 0 among them.
 -- Assumes nothing.
 use mathlib.Core.Path.{_≡_}
@@ -12,25 +12,24 @@ unfoldable pub leastUpTo : (ℕ → ℕ) → ℕ → ℕ
 leastUpTo f zero = f 0
 leastUpTo f (suc k) = min (leastUpTo f k) (f (suc k))
 
--- 'A limit is first lowered to the least limit of any group that begins at the same row and reaches at least as far':
--- 0, 1, .. rows further, up to the last of n rows.
+-- rule 6.1: the least limit of the groups that begin at the same row and reach 0, 1, .. rows further, up to the last of n rows
 unfoldable pub lowered : Table → ℕ → Table
 unfolding leastUpTo
 lowered limit n i j = leastUpTo (λ further. limit i (j + further)) (n - suc j)
 
--- 'The lowered limit less what the group's rows above have got', of the group that begins at row i and ends at the next row: `above` is
+-- rule 6.2: the lowered limit less what the group's rows above have got, of the group that begins at row i and ends at the next row: `above` is
 -- what the rows above have got. No group's rows above have got more than its lowered limit, so the difference is never cut at 0
 -- (`sum-le` in proofs/Sums.antt).
 unfoldable pub allowance : Table → ℕ → List ℕ → ℕ → ℕ
 unfolding lowered
 allowance limit n above i = lowered limit n i (length above) - total (drop i above)
 
--- 'Each row gets the least, over groups ending at it', of those.
+-- rule 6.2: the least of those, over the groups that end at the row
 unfoldable pub nextForce : Table → ℕ → List ℕ → ℕ
 unfolding allowance
 nextForce limit n above = leastUpTo (allowance limit n above) (length above)
 
--- 'From the top': the forces of the first k of n rows.
+-- rule 6.2, from the top: the forces of the first k of n rows
 unfoldable pub forcesDownTo : Table → ℕ → ℕ → List ℕ
 unfolding nextForce
 forcesDownTo limit n zero = []
@@ -41,20 +40,20 @@ unfoldable pub shared : Table → ℕ → List ℕ
 unfolding forcesDownTo
 shared limit n = forcesDownTo limit n n
 
--- Document 01's 'a list competes', for any table of limits: one force for each row, and for every group a sum of at most its limit,
--- before any lowering. The cap is no separate clause here, since a table may have it among its limits (`withCap`); the paper's own words,
--- with the cap, are Work's `CompetesFor`.
+-- Rule 7.1 for any table of limits: a list competes when it has one force for each row, and for every group a sum of at most its limit,
+-- before any lowering. The cap is no separate clause here, since a table may have it among its limits (`withCap`); rule 7.1 whole,
+-- with the cap, is Work's `CompetesFor`.
 pub record Competes (limit : Table) (n : ℕ) (forces : List ℕ) : Type 0 where
   pub rows : length forces ≡ n
   pub keeps : (i j : ℕ) → i ≤ j → j < n → groupSum forces i j ≤ limit i j
 
--- 'Moment Z of a list = sum of force × lever.'
+-- rule 6.4: Z
 unfoldable pub moment : List ℕ → List ℕ → ℕ
 moment [] forces = 0
 moment (lever ∷ levers) [] = 0
 moment (lever ∷ levers) (force ∷ forces) = force * lever + moment levers forces
 
--- 'Reported in newton metres, Z÷10000.'
+-- rule 6.4: Z in newton metres
 unfoldable pub newtonMetres : ℕ → ℕ
 newtonMetres z = z / 10000
 

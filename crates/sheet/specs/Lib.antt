@@ -1,2 +1,2 @@
--- What the program promises of what it prints. Document 01's sheet is defined in the crate `printer`. Assumes nothing.
+-- What the program promises of what it prints. The sheet itself (rules 12) is defined in the crate `printer`. Assumes nothing.
 pub mod Whole

@@ -1,4 +1,4 @@
--- Distances about the bolts, in hundredths of a millimetre (document 01, 'Group limits' and refusal 13).
+-- Distances about the bolts, in hundredths of a millimetre (rule 4.1).
 -- A difference below 0 is 0 here: refusal 13 turns a joint down for either, and where it lets one pass no difference is below 0.
 -- Assumes nothing.
 use Prim.Native.Nat.{ℕ, _+_, _-_, _*_}
@@ -16,27 +16,27 @@ leastDistance = 500
 abbrev pub leastEdge : ℕ
 leastEdge = 1000
 
--- 'Column m = 5(g − tc) − 8rc'
+-- rule 4.1: column m
 abbrev pub columnM : Column → Layout → ℕ
 columnM column layout = 5 * (layout .gauge - column .web) - 8 * column .radius
 
--- 'Plate m = 5(g − tb) − 8sw'
+-- rule 4.1: plate m
 abbrev pub plateM : Face → ℕ
 plateM face = 5 * (face .layout .gauge - face .beam .web) - 8 * face .welds .web
 
--- 'Column e = 5(Bc − g)'
+-- rule 4.1: column e
 abbrev pub columnEdge : Column → Layout → ℕ
 columnEdge column layout = 5 * (column .width - layout .gauge)
 
--- 'Plate e = 5(bp − g)'
+-- rule 4.1: plate e
 abbrev pub plateEdge : Face → ℕ
 plateEdge face = 5 * (face .plate .width - face .layout .gauge)
 
--- 'mx = 5(2h − 2Db + Tb) − 8sf', h of the extension row
+-- rule 4.1: mx, from the lever of the extension row
 abbrev pub extensionM : Face → ℕ
 extensionM face = 5 * (2 * getD (face .levers) 0 0 + face .beam .flange - 2 * face .beam .depth) - 8 * face .welds .flange
 
--- 's = h of row i less h of row j'
+-- rule 1.3: s
 abbrev pub rise : Face → ℕ → ℕ → ℕ
 rise face i j = getD (face .levers) i 0 - getD (face .levers) j 0
 

@@ -1,4 +1,4 @@
-// Distances about the bolts, in hundredths of a millimetre (document 01, 'Group limits' and refusal 13).
+// Distances about the bolts, in hundredths of a millimetre (rule 4.1).
 ghost use mathlib.Core.Path.{_≡_};
 ghost use Prim.Native.Nat.{_+_, _-_, _*_};
 ghost use Rattle.spacing.specs.Spacing.{spacingOf};

@@ -1,4 +1,4 @@
--- Document 01, 'Strengths': bolt area by diameter, a bolt's strengths by class, and what a pair of bolts takes. What a table doesn't
+-- Rules 3.2, 3.3 and 3.6: bolt area by diameter, a bolt's strengths by class, and what a pair of bolts takes. What a table doesn't
 -- have is 0. Assumes nothing.
 use Prim.Native.Nat.{ℕ, _*_, _/_}
 use mathlib.Core.List.{[], _∷_}
@@ -8,30 +8,31 @@ use Rattle.joint.specs.declared.Bolts.{Bolts}
 use Rattle.strength.specs.declared.ClassStrengths.{ClassStrengths}
 use Rattle.strength.specs.declared.BoltStrengths.{BoltStrengths}
 
--- A, in tenths of mm²
+-- rule 3.2: A, in tenths of mm²
 unfoldable pub boltArea : (diameter : ℕ) → ℕ
 boltArea = lookup diameters (843 ∷ 1570 ∷ 2450 ∷ 3530 ∷ 5610 ∷ [])
 
--- pt
+-- rule 3.3: pt
 unfoldable pub boltTension : (class : ℕ) → ℕ
 boltTension = lookup classes (240 ∷ 560 ∷ 700 ∷ [])
 
--- ps
+-- rule 3.3: ps
 unfoldable pub boltShear : (class : ℕ) → ℕ
 boltShear = lookup classes (160 ∷ 375 ∷ 400 ∷ [])
 
+-- rule 3.3
 unfoldable pub boltBearing : (class : ℕ) → ℕ
 boltBearing = lookup classes (460 ∷ 1000 ∷ 1300 ∷ [])
 
--- U
+-- rule 3.3: U
 unfoldable pub boltUltimate : (class : ℕ) → ℕ
 boltUltimate = lookup classes (400 ∷ 800 ∷ 1000 ∷ [])
 
--- 'Pair tension W = 2×A×pt÷10.'
+-- rule 3.6: W
 unfoldable pub pairTension : Bolts → ℕ
 pairTension bolts = 2 * boltArea (bolts .diameter) * boltTension (bolts .class) / 10
 
--- 'For a pair, bolt shear S = 2×A×ps÷10' (document 01, 'Verdicts').
+-- rule 3.6: S
 unfoldable pub pairShear : Bolts → ℕ
 pairShear bolts = 2 * boltArea (bolts .diameter) * boltShear (bolts .class) / 10
 

@@ -1,4 +1,4 @@
--- Document 01's strengths: steel and welds (`Steel`), bolts (`Bolt`), and refusal 14's thickness (`Thickness`). What serves the code and
+-- Rules 3 and 11.6: steel and welds (`Steel`), bolts (`Bolt`), and refusal 14's thickness (`Thickness`). What serves the code and
 -- the crates above is how large the strengths are (`InRange`).
 pub mod Steel
 pub mod Bolt

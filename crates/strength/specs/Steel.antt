@@ -1,4 +1,4 @@
--- Document 01, 'Strengths': steel by grade and thickness, its bearing strength, and welds. What a table doesn't have is 0.
+-- Rules 3.1, 3.4 and 3.5: steel by grade and thickness, its bearing strength, and welds. What a table doesn't have is 0.
 -- Assumes nothing.
 use Prim.Native.Nat.{ℕ}
 use mathlib.Core.Bool.{Bool, cond, _||_}
@@ -15,12 +15,12 @@ use Rattle.strength.specs.declared.SteelStrengths.{SteelStrengths}
 abbrev pub bands : List ℕ
 bands = 160 ∷ 400 ∷ 630 ∷ []
 
--- BS 5950-1:2000 Table 9
+-- rule 3.1: BS 5950-1:2000 Table 9
 unfoldable pub steelStrength : (grade thickness : ℕ) → ℕ
 steelStrength grade thickness =
     lookup grades (upTo bands (275 ∷ 265 ∷ 255 ∷ []) thickness ∷ upTo bands (355 ∷ 345 ∷ 335 ∷ []) thickness ∷ []) grade
 
--- yc and yb go by flange thickness, yp by tp
+-- rule 3.1: yc and yb go by flange thickness, yp by tp
 abbrev pub steelStrengths : Column → Beam → Plate → SteelStrengths
 steelStrengths column beam plate = record {
   column = steelStrength (column .grade) (column .flange);
@@ -28,13 +28,14 @@ steelStrengths column beam plate = record {
   plate = steelStrength (plate .grade) (plate .thickness);
 }
 
+-- rule 3.4
 unfoldable pub steelBearing : (grade : ℕ) → ℕ
 steelBearing = lookup grades (460 ∷ 550 ∷ [])
 
--- 'if beam or plate is 275'
+-- beam or plate is of grade 275
 abbrev pub eitherIs275 : (beam plate : ℕ) → Bool
 eitherIs275 beam plate = eqb beam 275 || eqb plate 275
 
--- pw
+-- rule 3.5: pw
 unfoldable pub weldStrength : (beam plate : ℕ) → ℕ
 weldStrength beam plate = cond (eitherIs275 beam plate) 220 250

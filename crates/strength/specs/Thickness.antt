@@ -1,4 +1,4 @@
--- Document 01, Work's refusal 14: 361×Tc²×yc and 361×tp²×yp both above 10000×δ²×U.
+-- Rule 11.6, Work's refusal 14: column flange and plate are both too thick for the bolts.
 -- Assumes nothing.
 use Prim.Native.Nat.{ℕ, _*_}
 use mathlib.Core.Bool.{Bool, _&&_}

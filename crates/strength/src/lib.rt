@@ -1,4 +1,4 @@
-// Strengths of BS 5950-1:2000 in newtons per square millimetre: steel, bolts and welds. What is in none of document 01's tables has
+// Strengths of BS 5950-1:2000 in newtons per square millimetre: steel, bolts and welds. What is in none of the tables of rules 3 has
 // strength 0; of welds any two grades have one, 220 if either is 275, else 250.
 ghost use mathlib.Core.Path.{_≡_};
 ghost use mathlib.Core.List.{[], _∷_};

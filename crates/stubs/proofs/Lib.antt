@@ -1,3 +1,3 @@
--- How large a T-stub's figures are, and that they come out as document 01 says.
+-- How large a T-stub's figures are, and that they come out as the rules say.
 pub mod Sizes
 pub mod Same

@@ -1,4 +1,4 @@
--- What comes of the figures is what document 01 says: each product is the paper's in another order. Assumes nothing.
+-- What comes of the figures is what the rules say: each product is theirs in another order. Assumes nothing.
 use mathlib.Core.Path.{_≡_, refl, sym, ap, _∙_}
 use Prim.Native.Nat.{ℕ, _+_, _*_, _/_}
 use native.Mathlib.Nat.{mul-assoc, mul-comm, mul-right-comm}

@@ -1,4 +1,4 @@
--- A T-stub's bending and a web's tension from figures that are the same for every group: each is a factor of document 01's rules, and
+-- A T-stub's bending and a web's tension from figures that are the same for every group: each is a factor of those of `Bending` and `Web`, and
 -- proofs/Same.antt has the laws that they come out as those say. Assumes nothing.
 use Prim.Native.Nat.{ℕ, _+_, _*_, _/_, min}
 use Rattle.stubs.specs.declared.Stub.{Stub}

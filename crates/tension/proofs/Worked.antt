@@ -1,4 +1,4 @@
--- A group's limit from the figures worked once is document 01's limit: each product is the paper's in another order, and the
+-- A group's limit from the figures worked once is the rules' limit: each product is theirs in another order, and the
 -- limits that apply are counted in the paper's order. Assumes nothing.
 use mathlib.Core.Path.{_≡_, refl, ap, _∙_}
 use mathlib.Core.Bool.{Bool, true, false, cond}

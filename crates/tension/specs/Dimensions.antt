@@ -1,5 +1,5 @@
 -- What of a face's group limits is the same for every group, worked once, and a group's limit from it.
--- Each figure is a factor of document 01's rules; proofs/Worked.antt has the law that the limit comes out as they say.
+-- Each figure is a factor of the rules' (`Limits`); proofs/Worked.antt has the law that the limit comes out as they say.
 -- Assumes nothing.
 use Prim.Native.Nat.{ℕ, _-_, _*_, _/_, min}
 use mathlib.Core.Bool.{cond}

@@ -1,4 +1,4 @@
-// The tension side: the limit of every group of bolt rows (document 01, 'Group limits'). Rows count from 0.
+// The tension side: the limit of every group of bolt rows (rules 4). Rows count from 0.
 // Lengths are in hundredths of a millimetre. Work calls these for joints that refusals 10 to 13 let pass.
 ghost use mathlib.Core.Path.{_≡_};
 ghost use Prim.Native.Nat.{_*_, _≤_};

@@ -1,4 +1,4 @@
--- The bending verdict (document 01, 'Verdicts'), for the moment Z of any list of row forces.
+-- The bending verdict (rule 8.1), for the moment Z of any list of row forces.
 -- Assumes nothing.
 use Prim.Native.Nat.{ℕ, _*_, _-_}
 use mathlib.Core.Bool.{Bool}
@@ -7,7 +7,7 @@ use lib.Signed.{leZ}
 use Rattle.joint.specs.declared.Beam.{Beam}
 use Rattle.joint.specs.declared.Loads.{Loads}
 
--- '2Z is at least 20000M − N(Db − Tb)', in whole numbers with a sign; Db is above Tb in every joint in range
+-- rule 8.1, in whole numbers with a sign; Db is above Tb in every joint in range
 unfoldable pub carries : Loads → Beam → (z : ℕ) → Bool
 carries loads beam z =
     leZ (pos (20000 * loads .moment) -ℤ loads .axial *ℤ pos (beam .depth - beam .flange)) (pos (2 * z))

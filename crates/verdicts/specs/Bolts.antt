@@ -1,4 +1,4 @@
--- The bolts' verdict (document 01, 'Verdicts'): pairs of bolts in shear and bearing, from the bolts' figures.
+-- The bolts' verdict (rules 8.2 and 8.3): pairs of bolts in shear and bearing, from the bolts' figures.
 -- Assumes nothing.
 use Prim.Native.Nat.{ℕ, _+_, _*_, _/_, min}
 use mathlib.Core.Bool.{Bool, cond}
@@ -10,7 +10,7 @@ use Rattle.strength.specs.Steel.{steelBearing}
 use Rattle.strength.specs.declared.BoltStrengths.{BoltStrengths}
 use Rattle.sharing.specs.Groups.{total}
 
--- 'Bearing δ×tp×pb÷5 and δ×Tc×pb÷5', for one thickness: 'pb the lower of bolt bearing and the steel bearing of that part's grade'
+-- rule 8.2: bearing of a pair on one part; pb is the lower of the two strengths
 abbrev pub pairBearing : BoltStrengths → (thickness grade : ℕ) → ℕ
 pairBearing bolt thickness grade = bolt .diameter * thickness * min (bolt .bearing) (steelBearing grade) / 5
 
@@ -19,20 +19,20 @@ unfoldable pub bearing : BoltStrengths → Column → Plate → ℕ
 bearing bolt column plate =
     min (pairBearing bolt (plate .thickness) (plate .grade)) (pairBearing bolt (column .flange) (column .grade))
 
--- 'A row with force 0 and a shear row count the least of these three'
+-- rule 8.2: what a row with force 0 and a shear row count
 unfoldable pub idlePair : BoltStrengths → Column → Plate → ℕ
 idlePair bolt column plate = min (bolt .«pair_shear») (bearing bolt column plate)
 
--- 'a row with force counts the least with 2S÷5 for S'
+-- rule 8.2: what a row with a force counts
 unfoldable pub pullingPair : BoltStrengths → Column → Plate → ℕ
 pullingPair bolt column plate = min (2 * bolt .«pair_shear» / 5) (bearing bolt column plate)
 
--- 'the total', of the rows' forces and the shear rows
+-- rule 8.3: the total of the rows and the shear rows
 unfoldable pub boltTotal : BoltStrengths → Column → Plate → (shearRows : ℕ) → List ℕ → ℕ
 boltTotal bolt column plate shearRows forces =
     total (map (λ force. cond (eqb force 0) (idlePair bolt column plate) (pullingPair bolt column plate)) forces)
     + shearRows * idlePair bolt column plate
 
--- 'Passes when the total is at least V.'
+-- rule 8.3
 unfoldable pub boltsPass : BoltStrengths → Column → Plate → (shearRows shear : ℕ) → List ℕ → Bool
 boltsPass bolt column plate shearRows shear forces = leb shear (boltTotal bolt column plate shearRows forces)

@@ -1,4 +1,4 @@
-// Verdicts on a joint's row forces: bending, bolts, flange weld and web weld (document 01, 'Verdicts').
+// Verdicts on a joint's row forces: bending, bolts, flange weld and web weld (rules 8).
 // Work calls these for joints whose fields are in range.
 ghost use mathlib.Core.Path.{_≡_};
 ghost use Prim.Native.Nat.{ℕ, _+_, _*_, _/_, _≤_, min};

@@ -1,4 +1,4 @@
--- A joint and a face's result as the words that the exported calls lend. Document 01 says nothing of words: `Words` takes its fields in
--- their order, `Results` its items. Assumes nothing.
+-- A joint and a face's result as the words that the exported calls lend. Rule 13.3: `Words` has the joint's fields in
+-- their order, `Results` the items of a result. Assumes nothing.
 pub mod Words
 pub mod Results

@@ -1,4 +1,4 @@
-// A joint as words, and back. Field k of document 01 stands at place k - 1.
+// A joint as words, and back. Field k stands at place k - 1.
 ghost use mathlib.Core.Path.{_≡_};
 ghost use Prim.Native.Nat.{_≤_};
 ghost use lib.ListN.{length};

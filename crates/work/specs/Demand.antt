@@ -17,17 +17,17 @@ use Rattle.sharing.specs.Sharing.{Competes}
 use Rattle.outcome.specs.declared.Outcome.{Outcome}
 use Rattle.work.specs.OneFace.{rowsOf, limitOf, capOf, momentOf, carriesOf}
 
--- 'A list competes when it has one force for each row, in whole newtons, none below zero; when for every group i to j its forces on
--- rows i to j add up to at most that group's limit, before any lowering; and when all its forces add up to at most the cap.'
+-- rule 7.1: a list competes when it has a whole number of newtons for each row and keeps every group's limit, before any lowering, and
+-- the cap
 pub record CompetesFor (column : Column) (bolt : BoltStrengths) (face : Face) (forces : List ℕ) : Type 0 where
   pub limits : Competes (limitOf column bolt face) (rowsOf face) forces
   pub capped : pos (total forces) ≤ℤ capOf column face
 
--- 'The program's list is the forces that Work answers for the joint's rows': of the answer's eight places the first, one for each row.
+-- rule 7.2: the program's list, of the answer's eight places the first, one for each row
 abbrev pub programsList : Face → (places : List ℕ) → List ℕ
 programsList face places = take (rowsOf face) places
 
--- Demand 3 of an answer for a face: its eight places for forces, and its verdict on bending.
+-- Rule 7.2, demand 3 of an answer for a face: its eight places for forces, and its verdict on bending.
 pub record Demand3 (column : Column) (bolt : BoltStrengths) (face : Face) (places : List ℕ) (bending : Bool) : Type 0 where
   -- the program's list competes
   pub competes : CompetesFor column bolt face (programsList face places)

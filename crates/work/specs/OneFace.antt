@@ -36,17 +36,17 @@ limitOf column bolt face = groupLimit column face (bolt .«pair_tension»)
 abbrev pub steelOf : Column → Face → SteelStrengths
 steelOf column face = steelStrengths column (face .beam) (face .plate)
 
--- 'The first least of these four governs.'
+-- rule 5.6
 unfoldable pub governingOf : Column → Face → CompressionCheck
 governingOf column face =
     governingCheck (resistancesOf (steelOf column face) column (face .beam) (face .plate) (face .welds))
 
--- 'The cap is that force less N.'
+-- rule 5.7
 unfoldable pub capOf : Column → Face → ℤ
 unfolding governingOf
 capOf column face = tensionCap (face .loads) (forceOf (governingOf column face))
 
--- 'It joins the limits as one on group 1 to n.'
+-- rule 6.3: the forces under the limits and the cap
 unfoldable pub forcesOf : Column → BoltStrengths → Face → List ℕ
 unfolding capOf
 forcesOf column bolt face =

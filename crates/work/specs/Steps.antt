@@ -1,4 +1,4 @@
--- What the steps of Work hand on and rely on: nothing here is document 01's. Assumes nothing.
+-- What the steps of Work hand on and rely on: nothing here states a rule. Assumes nothing.
 use mathlib.Core.Path.{_≡_}
 use Prim.Native.Nat.{ℕ, _≤_}
 use mathlib.Core.List.{List}

@@ -1,4 +1,4 @@
--- Working a joint (document 01, 'Work'): the refusals in their order, and else the whole result. Assumes nothing.
+-- Working a joint (rules 11): the refusals in their order, and else the whole result. Assumes nothing.
 use Prim.Native.Nat.{ℕ}
 use mathlib.Core.Bool.{false, not}
 use mathlib.Core.List.{List, [], _∷_}
@@ -26,8 +26,7 @@ use Rattle.work.specs.OneFace.{steelOf, governingOf, capOf, forcesOf, mo
 use Rattle.outcome.specs.declared.FaceResult.{FaceResult}
 use Rattle.outcome.specs.declared.Outcome.{Outcome}
 
--- 'In a refusal forces, sum, newton metres, cap and governing force are 0, the check named is F, verdicts are no, and the field
--- number is 0 but for 10.'
+-- rule 11.8: in a refusal every figure is 0, the check is F with 0, the verdicts are no
 abbrev pub refusedOutcome : (number field : ℕ) → Outcome
 refusedOutcome number field = record {
   refusal = record { number = number; field = field };
@@ -45,7 +44,7 @@ refusedOutcome number field = record {
 abbrev pub refusedFace : (number : ℕ) → Outcome
 refusedFace number = refusedOutcome number 0
 
--- 'Tried in this order', after 10: each number with the test that lets a face pass.
+-- rules 11.3 to 11.7: the refusals after 10 in their order, each number with the test that lets a face pass
 unfoldable pub refusalsAfter10 : Column → BoltStrengths → Face → List Check
 refusalsAfter10 column bolt face =
     (11, leversFall face)
@@ -77,7 +76,7 @@ unfolding refusalsAfter10 resultOf
 workedFace column bolt face =
     firstFailing (completed (resultOf column bolt face)) refusedFace (refusalsAfter10 column bolt face)
 
--- '10 a field out of range, with the first such field's number'; then the face.
+-- rule 11.2: 10 with the first field that is out of range; then the face
 abbrev pub workedBy : FieldCheck → Outcome → Outcome
 workedBy AllInRange outcome = outcome
 workedBy (Outside field) outcome = refusedOutcome 10 field

@@ -1,4 +1,4 @@
-// Work: one joint worked whole (document 01, 'Work'). The refusals in their order, then limits, compression, cap, row forces and
+// Work: one joint worked whole (rules 11). The refusals in their order, then limits, compression, cap, row forces and
 // verdicts. Rows count from 0.
 ghost use mathlib.Core.Path.{_≡_};
 ghost use Prim.Native.Nat.{ℕ, _≤_};
@@ -43,7 +43,7 @@ pub enum Admission {
     Refused(u32),
 }
 
-// Works any joint: the whole result, or the refusal that document 01's order comes to first. The row forces are the best there are:
+// Works any joint: the whole result, or the first refusal in their order that holds. The row forces are the best there are:
 // demand 3, in specs/Demand.antt.
 pub fn work(joint: Joint) -> Outcome
     ensures equals { λ r. ⌜ r ≡ worked joint ⌝ }

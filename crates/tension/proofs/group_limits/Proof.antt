@@ -1,4 +1,4 @@
--- `group_limits` meets its contract: the table agrees with the figures' limits, and those are document 01's. Assumes nothing.
+-- `group_limits` meets its contract: the table agrees with the figures' limits, and those are the rules'. Assumes nothing.
 use mathlib.Core.Path.{ap, _∙_}
 use Rattle.tension.specs.Dimensions.{limitsBy}
 use Rattle.tension.proofs.Sizes.{levers-of, dimensions-within}
