@@ -1,9 +1,9 @@
 /* The proved calls, for C. Link with libexports.a.
  *
- * A slice is a pointer with its count of elements. A joint is 37 words, document 01's fields in file order with spare levers 0; the axial
+ * A slice is a pointer with its count of elements. A joint is 37 words, its fields in order (docs/rules.md, 2.1) with spare levers 0; the axial
  * force is its two's complement. Slices that a call reads and slices that it writes don't overlap.
  *
- * Each call but jinqewan_rest answers 0 where it did what it is for, and else one number that tells why not: document 01's refusal number
+ * Each call but jinqewan_rest answers 0 where it did what it is for, and else one number that tells why not: the refusal's number
  * (JINQEWAN_NUMBER) and, for refusal 10, the field (JINQEWAN_FIELD); or JINQEWAN_SHORT where a slice can't hold a joint or a result; or,
  * of the sheet alone, JINQEWAN_NO_ROOM. Whatever is answered but 0, every slice and place that was lent is as it was. */
 #ifndef JINQEWAN_H

@@ -1,4 +1,4 @@
-/* Works document 01's joint I and prints its figures. */
+/* Works the checked joint I (docs/rules.md, 14) and prints its figures. */
 #include "jinqewan.h"
 #include <inttypes.h>
 #include <stdio.h>

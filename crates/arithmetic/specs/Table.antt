@@ -1,4 +1,4 @@
--- Small tables as the papers print them: a row of keys, and under it a row of values. A key is found by a test, which says whether the
+-- Small tables as papers print them: a row of keys, and under it a row of values. A key is found by a test, which says whether the
 -- table goes by equal keys or by bands. Assumes nothing.
 use Prim.Native.Nat.{ℕ, suc}
 use mathlib.Core.Bool.{Bool, true, false, cond, _||_, _&&_}

@@ -1,5 +1,5 @@
 -- A group's limit from the figures worked once is the rules' limit: each product is theirs in another order, and the
--- limits that apply are counted in the paper's order. Assumes nothing.
+-- limits that apply are counted in the order of the rules. Assumes nothing.
 use mathlib.Core.Path.{_≡_, refl, ap, _∙_}
 use mathlib.Core.Bool.{Bool, true, false, cond}
 use Prim.Native.Nat.{ℕ, _*_, _/_, _≤_, min}

@@ -1,4 +1,4 @@
-//! The proved calls. A joint is 37 words of 32 bits, document 01's fields in file order, N by its two's complement. Each call but `rest`
+//! The proved calls. A joint is 37 words of 32 bits, its fields in order (docs/rules.md, 2.1), N by its two's complement. Each call but `rest`
 //! answers 0 where it did what it is for, and else one number that tells why not (`number`, `field`); then every slice and place that was
 //! lent is as it was.
 
@@ -14,7 +14,7 @@ pub const SHORT: u32 = 100;
 /// The sheet's output has no room for all lines.
 pub const NO_ROOM: u32 = 101;
 
-/// Document 01's refusal number in an answer.
+/// The refusal's number in an answer.
 pub const fn number(answer: u32) -> u32 {
     answer & 255
 }

@@ -1,5 +1,5 @@
 //! The joint's fields, grouped by what a second beam on the other face of the column would share. Lengths are in tenths of a
-//! millimetre unless said. The numbers are document 01's.
+//! millimetre unless said. The numbers are those of docs/rules.md, 2.1.
 
 /// Most bolt rows of a face.
 pub const ROWS: usize = 8;
