@@ -50,8 +50,8 @@ module _ (n : ℕ) (limits : List ℕ) where
         pub taken : allocated n limits ≡ record { refusal = 0; forces = eightPlaces (shared (listed n limits) n) }
         unfolding allocated allocateRefusals
         taken =
-            holds _ refusedAllocation 3 _ _ rows ∙ holds _ refusedAllocation 7 _ _ (le-leb _ _ enough) ∙ holds _ refusedAllocation 8 _ _ small
-            ∙ none-left _ refusedAllocation
+            holds _ refusedAllocation 3 _ _ rows ∙ holds _ refusedAllocation 7 _ _ (le-leb _ _ enough)
+            ∙ holds _ refusedAllocation 8 _ _ small ∙ none-left _ refusedAllocation
 
         pub shareable : Shareable n limits
         shareable =

@@ -135,7 +135,8 @@ levers-within n row [] few = refl
 levers-within n row (h ∷ hs) few =
     rw (le-leb 1 (30 + row) (omega arith), le-leb (30 + row) jointWordCount (omega arith)) (levers-within n (suc row) hs (omega arith))
 
-field-small : (joint : Joint) → length (joint .face .levers) ≡ 8 → fieldOf (fieldCheck (joint .column) (joint .bolts) (joint .face)) ≤ jointWordCount
+field-small : (joint : Joint) → length (joint .face .levers) ≡ 8
+    → fieldOf (fieldCheck (joint .column) (joint .bolts) (joint .face)) ≤ jointWordCount
 unfolding fieldCheck fieldChecks fixedChecks allWithin
 field-small joint eight =
     let levers = leverChecks (joint .face .rows) 0 (joint .face .levers) in

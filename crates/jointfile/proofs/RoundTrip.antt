@@ -134,7 +134,8 @@ pub record Took (bytes : List ℕ) (joint : Joint) (left : List ℕ) : Type 0 wh
   pub writable : Writable joint
 
 module _ (rows : ℕ) (others levers bytes bytes₁ bytes₂ left : List ℕ) (count : within rowCounts rows ≡ true) (small : rows < 2 ^ 32)
-    (first : stored rows ++ bytes₁ ≡ bytes) (taken : TakenAll bytes₁ otherFieldCount others bytes₂) (taken′ : TakenAll bytes₂ rows levers left) where
+    (first : stored rows ++ bytes₁ ≡ bytes) (taken : TakenAll bytes₁ otherFieldCount others bytes₂)
+    (taken′ : TakenAll bytes₂ rows levers left) where
   same-fields : fieldsOf (jointOf (rows ∷ others) (eightPlaces levers)) ≡ rows ∷ others
   same-fields = fields-joint (rows ∷ others) (eightPlaces levers) (ap suc (taken .long))
 

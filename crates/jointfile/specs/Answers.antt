@@ -43,8 +43,8 @@ pub record FileParts (fs hs : List ℕ) : Type 0 where
   pub rows : getD fs 0 0 ≤ 8
   pub levers : length hs ≤ 8
 
--- A joint that the program can hold: eight levers, and each number of the file in 32 bits. N is stored as about twice its size, so that 32
--- bits of field 27 are what a signed field of 32 bits can hold.
+-- A joint that the program can hold: eight levers, and each number of the file in 32 bits. Of N that is the number that it is stored as,
+-- which takes 32 bits just where N is in the range of a signed field of 32.
 pub record Held (joint : Joint) : Type 0 where
   pub eight : length (joint .face .levers) ≡ 8
   pub fields : (k : ℕ) → getD (fieldsOf joint) k 0 < 2 ^ 32

@@ -54,7 +54,8 @@ file-size bytes joint left took =
       some-row rows (took .writable .rows),
     ))
 
-lines-few : (most number : ℕ) (bytes : List ℕ) → Bytes bytes → leastFile * length (linesWithin most number bytes) ≤ length bytes + (leastFile - 1)
+lines-few : (most number : ℕ) (bytes : List ℕ) → Bytes bytes
+    → leastFile * length (linesWithin most number bytes) ≤ length bytes + (leastFile - 1)
 unfolding linesWithin
 lines-few zero number bytes all = omega arith
 lines-few (suc most) number [] all = omega arith
@@ -75,7 +76,8 @@ lines-short zero number bytes = omega arith
 lines-short (suc most) number [] = omega arith
 lines-short (suc most) number (byte ∷ bytes) = go (lines-short most (number + 1)) (readJoint (byte ∷ bytes))
   where
-    go : ((left : List ℕ) → length (concatenated (linesWithin most (number + 1) left)) ≤ mostLine * length (linesWithin most (number + 1) left))
+    go : ((left : List ℕ)
+        → length (concatenated (linesWithin most (number + 1) left)) ≤ mostLine * length (linesWithin most (number + 1) left))
         → (parse : Parse Joint)
         → length (concatenated (lineThen (linesWithin most (number + 1)) number parse))
         ≤ mostLine * length (lineThen (linesWithin most (number + 1)) number parse)
