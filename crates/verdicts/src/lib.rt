@@ -57,6 +57,7 @@ pub fn tally_forces(rows: usize, levers: [u32; 8], forces: [u64; 8]) -> Tally
     }
 }
 
+// 1 for a row with a force, 0 for one without.
 fn force_count(force: u64) -> u64
     ensures { λ r. ⌜ r ≡ cond (eqb force 0) 0 1 ⌝ }
 {

@@ -67,17 +67,17 @@ module _ (n cap : ℕ) (limit : Table) (entry table : List ℕ) (filled : TableF
   pub forces-agree : shared (listed n (set table (n - 1) stored)) n ≡ shared (withCap limit n cap) n
   forces-agree = shared-agrees _ _ n agrees
 
+zeros-small : (m i : ℕ) → getD (replicate m 0) i 0 ≤ mostLimit
+zeros-small zero i = zero-le
+zeros-small (suc m) zero = zero-le
+zeros-small (suc m) (suc i) = zeros-small m i
+
 -- A lent table of zeros that limits were put into, with a number stored that is at most one of its places: nothing in it is too large, and
 -- it has a place for each group of any count of rows.
 module _ (n : ℕ) (limit : Table) (table : List ℕ) (filled : TableFilled n limit (replicate tablePlaces 0) table) where
-  zeros : (m i : ℕ) → getD (replicate m 0) i 0 ≤ mostLimit
-  zeros zero i = zero-le
-  zeros (suc m) zero = zero-le
-  zeros (suc m) (suc i) = zeros m i
-
   pub shareable : (rows place at stored : ℕ) → rows ≤ rowCounts .high → stored ≤ getD table at 0 → Shareable rows (set table place stored)
   shareable rows place at stored few low =
-      let small = none-above filled (zeros tablePlaces) in
+      let small = none-above filled (zeros-small tablePlaces) in
       record {
         rows = few;
         enough = omega (arith, length-set table place stored, filled .size, group-count-le rows few);
