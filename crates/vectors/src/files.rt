@@ -10,17 +10,23 @@ use crate::reader::fill_bytes;
 use crate::reader::is_end;
 use crate::reader::put_words;
 use jointfile::Written;
+use words::joints::JOINT_WORDS;
 use words::joints::joint_of;
 use words::joints::put_joint;
 
 // No line has more bytes.
 const MOST_BYTES: usize = 512;
 
+// The numbers that read answers, and those that write is handed.
+const READ_NUMBERS: usize = JOINT_WORDS + 2;
+
+const WRITE_NUMBERS: usize = JOINT_WORDS + 1;
+
 // Refusal, next place, and the words of the joint.
-fn read_numbers(refusal: u32, next: usize, words: [u32; 37]) -> [u64; 39] {
-    let mut numbers = [0u64; 39];
+fn read_numbers(refusal: u32, next: usize, words: [u32; JOINT_WORDS]) -> [u64; READ_NUMBERS] {
+    let mut numbers = [0u64; READ_NUMBERS];
     let mut i = 0;
-    while i < 37 {
+    while i < JOINT_WORDS {
         numbers[i + 2] = words[i] as u64;
         i += 1;
     }
@@ -36,7 +42,7 @@ fn compare_reading(file: &[u8], should: &[u64]) -> Comparison {
     if file.len() < next {
         return Comparison::BytesDiffer;
     }
-    let mut words = [0u32; 37];
+    let mut words = [0u32; JOINT_WORDS];
     put_joint(reading.joint, &mut words);
     let are = read_numbers(reading.refusal, next, words);
     let numbers = compare(&are, should);
@@ -48,7 +54,7 @@ pub fn run_read(line: &[u8], place: Place) -> Comparison {
     let Bytes::Read { count, next } = fill_bytes(line, place, &mut bytes) else {
         return Comparison::Unreadable;
     };
-    let mut should = [0u64; 39];
+    let mut should = [0u64; READ_NUMBERS];
     let end = fill(line, after_equals(line, Place::At(next)), &mut should);
     if !is_end(line, end) {
         return Comparison::Unreadable;
@@ -69,7 +75,7 @@ fn written_numbers(written: Written) -> [u64; 2] {
 
 // Writes the joint to a buffer.
 fn compare_writing(
-    joint: [u32; 37],
+    joint: [u32; JOINT_WORDS],
     buffer: &mut [u8],
     should: [u64; 2],
     left: &[u8],
@@ -79,7 +85,12 @@ fn compare_writing(
 }
 
 // The same to one of so many bytes, each 165 before the call, in hexadecimal a5.
-fn compare_buffer(joint: [u32; 37], size: u64, should: [u64; 2], left: &[u8]) -> Comparison {
+fn compare_buffer(
+    joint: [u32; JOINT_WORDS],
+    size: u64,
+    should: [u64; 2],
+    left: &[u8],
+) -> Comparison {
     let length = size as usize;
     if MOST_BYTES < length {
         return Comparison::Unreadable;
@@ -89,7 +100,7 @@ fn compare_buffer(joint: [u32; 37], size: u64, should: [u64; 2], left: &[u8]) ->
 }
 
 pub fn run_write(line: &[u8], place: Place) -> Comparison {
-    let mut given = [0u64; 38];
+    let mut given = [0u64; WRITE_NUMBERS];
     let mut should = [0u64; 2];
     let equals = after_equals(line, fill(line, place, &mut given));
     let answer = fill(line, equals, &mut should);
@@ -97,12 +108,12 @@ pub fn run_write(line: &[u8], place: Place) -> Comparison {
     let Bytes::Read { count, next } = fill_bytes(line, answer, &mut left) else {
         return Comparison::Unreadable;
     };
-    let mut joint = [0u32; 37];
+    let mut joint = [0u32; JOINT_WORDS];
     if !(is_end(line, Place::At(next)) & put_words(&given, &mut joint)) {
         return Comparison::Unreadable;
     }
     if MOST_BYTES < count {
         return Comparison::Unreadable;
     }
-    compare_buffer(joint, given[37], should, &left[..count])
+    compare_buffer(joint, given[JOINT_WORDS], should, &left[..count])
 }

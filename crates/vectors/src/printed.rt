@@ -5,10 +5,17 @@
 // it is.
 use crate::compare::Comparison;
 use crate::compare::compare;
+use crate::joints::OUTCOME_NUMBERS;
 use crate::joints::worked_numbers;
 use crate::reader::Place;
 use crate::reader::fill_sides;
 use crate::reader::put_words;
+use words::joints::JOINT_WORDS;
+
+// The numbers that a cell and a shear capacity are given by: their own, and the joint's words.
+const CELL_NUMBERS: usize = JOINT_WORDS + 5;
+
+const SHEAR_NUMBERS: usize = JOINT_WORDS + 4;
 
 // Where V, field 28, stands among a joint's words, and the verdict on the bolts among the numbers of what it comes to.
 const SHEAR: usize = 27;
@@ -28,12 +35,12 @@ fn is_near(worked: u64, printed: u64, tolerance: u64) -> bool {
 }
 
 // Whether the number at a place, counted from 1, is near the printed figure, as it must be or must not be.
-fn compare_print(are: [u64; 19], cell: [u32; 5], near: bool) -> Comparison {
+fn compare_print(are: [u64; OUTCOME_NUMBERS], cell: [u32; 5], near: bool) -> Comparison {
     let place = cell[4] as usize;
     if place == 0 {
         return Comparison::Unreadable;
     }
-    if 19 < place {
+    if OUTCOME_NUMBERS < place {
         return Comparison::Unreadable;
     }
     let worked = are[place - 1];
@@ -46,13 +53,13 @@ fn compare_print(are: [u64; 19], cell: [u32; 5], near: bool) -> Comparison {
 
 // A cell, or with `near` false an exception.
 pub fn run_cell(line: &[u8], place: Place, near: bool) -> Comparison {
-    let mut given = [0u64; 42];
-    let mut should = [0u64; 19];
+    let mut given = [0u64; CELL_NUMBERS];
+    let mut should = [0u64; OUTCOME_NUMBERS];
     if !fill_sides(line, place, &mut given, &mut should) {
         return Comparison::Unreadable;
     }
     let mut cell = [0u32; 5];
-    let mut joint = [0u32; 37];
+    let mut joint = [0u32; JOINT_WORDS];
     if !(put_words(&given, &mut cell) & put_words(&given[5..], &mut joint)) {
         return Comparison::Unreadable;
     }
@@ -65,7 +72,7 @@ pub fn run_cell(line: &[u8], place: Place, near: bool) -> Comparison {
 }
 
 // The verdict on the bolts under a shear force.
-fn bolts_under(joint: [u32; 37], shear: u32) -> u64 {
+fn bolts_under(joint: [u32; JOINT_WORDS], shear: u32) -> u64 {
     let mut loaded = joint;
     loaded[SHEAR] = shear;
     let numbers = worked_numbers(loaded);
@@ -74,7 +81,7 @@ fn bolts_under(joint: [u32; 37], shear: u32) -> u64 {
 
 // The bolts' verdicts under the least and the greatest shear force that so many of a printed capacity stand for.
 fn compare_shear(
-    joint: [u32; 37],
+    joint: [u32; JOINT_WORDS],
     count: u32,
     printed: u32,
     tolerance: u32,
@@ -102,13 +109,13 @@ fn compare_shear(
 }
 
 pub fn run_shear(line: &[u8], place: Place) -> Comparison {
-    let mut given = [0u64; 41];
+    let mut given = [0u64; SHEAR_NUMBERS];
     let mut should = [0u64; 2];
     if !fill_sides(line, place, &mut given, &mut should) {
         return Comparison::Unreadable;
     }
     let mut cell = [0u32; 4];
-    let mut joint = [0u32; 37];
+    let mut joint = [0u32; JOINT_WORDS];
     if !(put_words(&given, &mut cell) & put_words(&given[4..], &mut joint)) {
         return Comparison::Unreadable;
     }

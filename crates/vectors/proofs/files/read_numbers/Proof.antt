@@ -7,10 +7,10 @@ use Rattle.vectors.proofs.files.read_numbers.Statement.{statement}
 use Rattle.vectors.proofs.files.read_numbers.Tie as tie
 
 abbrev Inv-loop : tie.InvT-loop
-Inv-loop refusal next words numbers₀ i₀ numbers i = length numbers ≡ 39
+Inv-loop refusal next words numbers₀ i₀ numbers i = length numbers ≡ length numbers₀
 
 abbrev μ-loop : tie.MeasureT-loop
-μ-loop refusal next words numbers₀ i₀ numbers i = 37 - i
+μ-loop refusal next words numbers₀ i₀ numbers i = length words - i
 
 loop-holds : tie.Need-loop-holds Inv-loop μ-loop
 loop-holds c = search needs
