@@ -49,7 +49,7 @@ within-yes range x t =
     let halves = and-yes (leb (range .low) x) (leb x (range .high)) t in
     record { low = leb→le (range .low) x (halves .0); high = leb→le x (range .high) (halves .1) }
 
--- a range that hangs on a test, asked at its ends
+-- a range that goes by a test, asked at its ends
 pub within-either : (test : Bool) (a b c d x : ℕ) → within (cond test a c to cond test b d) x ≡ within (cond test (a to b) (c to d)) x
 within-either true a b c d x = refl
 within-either false a b c d x = refl

@@ -61,7 +61,7 @@ Demand3OfWords fields words =
     let joint = jointOfWords fields in
     Demand3 (joint .column) (boltStrengths (joint .bolts)) (joint .face) (take 8 words) (eqb (getD words 13 0) 1)
 
--- 101: there is no room for all lines
+-- rule 13.1: 101 says that there is no room for all lines
 abbrev pub sheetAnswer : (size : ℕ) → Printing → Answered BufferFront
 sheetAnswer size (whole total output) = answers 0 (record { bytes = output; size = total })
 sheetAnswer size (noRoom output) = answers 101 (record { bytes = output; size = size })

@@ -1,4 +1,4 @@
-// Which of the four compression resistances governs, and the tension cap that it leaves (rules 5.6 and 5.7).
+// Which of the four compression resistances governs, and the tension cap that it leaves (rules 5.6, 5.7 and 11.7).
 ghost use mathlib.Core.Path.{_≡_};
 ghost use Prim.Native.Nat.{_≤_};
 ghost use Rattle.joint.specs.InRange.{LoadsInRange};

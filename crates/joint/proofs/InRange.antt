@@ -116,7 +116,7 @@ module _ (column : Column) (bolts : Bolts) (face : Face) (found : fieldCheck col
         };
       }
 
--- what a range that hangs on another field says where that field is known
+-- what a range that goes by another field says where that field is known
 module _ (face : Face) (r : FaceInRange face) where
   -- no lever is above the greatest, and places past the last lever are 0
   pub lever-most : (row : ℕ) → getD (face .levers) row 0 ≤ mostLever

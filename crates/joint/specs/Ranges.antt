@@ -1,4 +1,4 @@
--- Rule 2.1: the range of each field, both ends included, in the order of the fields.
+-- Rules 2.1 and 2.2: the range of each field, both ends included, in the order of the fields.
 -- Assumes nothing.
 use Prim.Native.Nat.{ℕ}
 use mathlib.Core.Bool.{cond}

@@ -1,4 +1,4 @@
--- Rules 9.1 and 9.3: what reading gives (`Parse`), a number (`Number`), and numbers one after another (`Run`).
+-- Rules 9.1 to 9.3: what reading gives (`Parse`), a number (`Number`), and numbers one after another (`Run`).
 pub mod Parse
 pub mod Number
 pub mod Run

@@ -1,4 +1,4 @@
--- What it means that no other list of row forces does better: demand 3 for a table of limits.
+-- What it means that no other list of row forces does better: demand 3 for a table of limits (rule 7.2).
 -- Assumes nothing.
 use mathlib.Core.Path.{_≡_}
 use mathlib.Core.Logic.{_↔_}

@@ -37,6 +37,6 @@ unfoldable pub listed : ℕ → List ℕ → Table
 unfolding groupsAbove
 listed n limits i j = getD limits (groupsAbove n i + (j - i)) 0
 
--- No limit above this is taken: Allocate's refusal 8.
+-- rule 10.2: no limit above this is taken
 abbrev pub mostLimit : ℕ
 mostLimit = 4000000000

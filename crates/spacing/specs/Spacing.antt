@@ -8,7 +8,7 @@ use Rattle.joint.specs.declared.Layout.{Layout}
 use Rattle.joint.specs.declared.Face.{Face}
 use Rattle.spacing.specs.declared.Spacing.{Spacing}
 
--- refusal 13: the least that m and mx may be
+-- rule 11.5: the least that m and mx may be
 abbrev pub leastDistance : ℕ
 leastDistance = 500
 

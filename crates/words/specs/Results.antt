@@ -1,4 +1,4 @@
--- What a face comes to, as words: eight forces, sum, newton metres, cap, check, governing force and four verdicts.
+-- What a face comes to (rule 13.3), as words: eight forces, sum, newton metres, cap, check, governing force and four verdicts.
 -- Assumes nothing.
 use Prim.Native.Nat.{ℕ, _+_}
 use mathlib.Core.List.{List, [], _∷_, _++_}

@@ -1,4 +1,4 @@
--- A joint as words: its fields in file order, all eight levers, N by its two's complement in 32 bits.
+-- A joint as words: its fields in file order, all eight levers, N by its two's complement in 32 bits (rule 13.3).
 -- Assumes nothing.
 use Prim.Native.Nat.{ℕ, _+_, _-_}
 use mathlib.Core.List.{List, _++_}

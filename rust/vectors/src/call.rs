@@ -4,7 +4,7 @@ use crate::items::Items;
 use reference::Joint;
 
 /// The longest buffer that Write is lent.
-const LONGEST_BUFFER: u64 = 256;
+const LONGEST_BUFFER: u64 = 512;
 /// The most limits that Allocate is handed.
 const MOST_LIMITS: usize = 64;
 
@@ -100,8 +100,8 @@ mod tests {
         let Ok(Call::Work(joint)) = Call::of(&format!("work {JOINT_I}")) else {
             panic!("work");
         };
-        let written = Call::Write { joint, size: 256 };
-        assert_eq!(Call::of(&format!("write {JOINT_I} 256")), Ok(written));
+        let written = Call::Write { joint, size: 512 };
+        assert_eq!(Call::of(&format!("write {JOINT_I} 512")), Ok(written));
         let none = Call::Allocate {
             count: u64::MAX,
             limits: vec![],
@@ -165,8 +165,8 @@ mod tests {
             "more than 64 limits"
         );
         assert_eq!(
-            why(&format!("write {JOINT_I} 257")),
-            "item 38, `257`: not a number from 0 to 256"
+            why(&format!("write {JOINT_I} 513")),
+            "item 38, `513`: not a number from 0 to 512"
         );
         assert_eq!(
             why(&format!("cell 1 1 1 1 20 {JOINT_I}")),
