@@ -1,5 +1,5 @@
--- The integer square root (rule 5.8): the greatest number of 32 bits whose square is at most x, for x of 64 bits; how long x is in bits; and what
--- makes a first guess safe. Assumes nothing.
+-- The integer square root (rule 5.8): the greatest number of 32 bits whose square is at most x, for x of 64 bits; how long x is in bits;
+-- and what makes a first guess safe. Assumes nothing.
 use Prim.Native.Nat.{ℕ, _+_, _-_, _*_, _^_, _≤_, _<_}
 use mathlib.Core.Bool.{cond}
 use lib.Dec.{eqb}

@@ -1,5 +1,5 @@
--- What printing a sheet into a lent buffer comes to, and the figures that its code goes by. Rule 13.2 of the sheet, and what serves the code.
--- Assumes nothing.
+-- What printing a sheet into a lent buffer comes to, and the figures that its code goes by. Rule 13.2 of the sheet, and what serves the
+-- code. Assumes nothing.
 use Prim.Native.Nat.{ℕ, _+_, _-_, _*_, _/_}
 use mathlib.Core.List.{List, [], _∷_}
 use mathlib.Core.Bool.{cond}

@@ -1,5 +1,5 @@
--- Rules 1.3, 6, 7 and 10.1: row groups and their limits (`Groups`), how limits become row forces and which lists compete (`Sharing`), and what makes
--- a list the best, demand 3 for any table (`Best`).
+-- Rules 1.3, 6, 7 and 10.1: row groups and their limits (`Groups`), how limits become row forces and which lists compete (`Sharing`), and
+-- what makes a list the best, demand 3 for any table (`Best`).
 pub mod Groups
 pub mod Sharing
 pub mod Best

@@ -17,8 +17,8 @@ unfoldable pub lowered : Table → ℕ → Table
 unfolding leastUpTo
 lowered limit n i j = leastUpTo (λ further. limit i (j + further)) (n - suc j)
 
--- rule 6.2: the lowered limit less what the group's rows above have got, of the group that begins at row i and ends at the next row: `above` is
--- what the rows above have got. No group's rows above have got more than its lowered limit, so the difference is never cut at 0
+-- rule 6.2: the lowered limit less what the group's rows above have got, of the group that begins at row i and ends at the next row:
+-- `above` is what the rows above have got. No group's rows above have got more than its lowered limit, so the difference is never cut at 0
 -- (`sum-le` in proofs/Sums.antt).
 unfoldable pub allowance : Table → ℕ → List ℕ → ℕ → ℕ
 unfolding lowered

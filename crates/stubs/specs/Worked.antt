@@ -1,5 +1,5 @@
--- A T-stub's bending and a web's tension from figures that are the same for every group: each is a factor of those of `Bending` and `Web`, and
--- proofs/Same.antt has the laws that they come out as those say. Assumes nothing.
+-- A T-stub's bending and a web's tension from figures that are the same for every group: each is a factor of those of `Bending` and `Web`,
+-- and proofs/Same.antt has the laws that they come out as those say. Assumes nothing.
 use Prim.Native.Nat.{ℕ, _+_, _*_, _/_, min}
 use Rattle.stubs.specs.declared.Stub.{Stub}
 use Rattle.stubs.specs.declared.Lengths.{Lengths}

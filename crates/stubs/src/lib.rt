@@ -1,5 +1,5 @@
-// Bending of T-stubs and tension in webs (rules 4.2 to 4.5, 4.7, 4.9 and 4.10), from figures that are the same for every group. Lengths are in
-// hundredths of a millimetre. The crate `tension` calls these for figures that it shows to be small enough.
+// Bending of T-stubs and tension in webs (rules 4.2 to 4.5, 4.7, 4.9 and 4.10), from figures that are the same for every group. Lengths are
+// in hundredths of a millimetre. The crate `tension` calls these for figures that it shows to be small enough.
 ghost use mathlib.Core.Path.{_≡_};
 ghost use Prim.Native.Nat.{_*_, _/_, min};
 ghost use Rattle.arithmetic.specs.Range.{Within};
