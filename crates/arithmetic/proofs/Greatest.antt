@@ -6,6 +6,7 @@ use Prim.Native.Nat.{ℕ, zero, suc, _+_, _*_, _/_, _^_, _≤_, _<_}
 use native.Mathlib.Nat.{le-antisymm, le-trans, lt-irrefl, lt-of-lt-of-le, lt-of-not-le, add-assoc, zero-add, mul-comm, two-pow-succ}
 use native.Mathlib.Nat.{le-div-iff-mul-le, div-lt-iff-lt-mul}
 use native.Mathlib.Decide.{decLe}
+use native.Mathlib.Omega.{arith}
 use native.Mathlib.Numerals.{add-one}
 use borrow.Author.Tests.{le-leb, lt-leb}
 use lib.Dec.{T, leb, leb→le, le→leb}
@@ -32,6 +33,21 @@ module _ (test : ℕ → Bool) where
   searched zero found p q = (p, q)
   searched (suc digits) found p q =
       halved digits found (test (found + 2 ^ digits)) refl p (rw (two-pow-succ, ← add-assoc) at q) (searched digits)
+
+  -- half the way: from the middle or from below it, the search ends below the same number
+  halved-below : (digits found : ℕ) (passes : Bool) → ((from : ℕ) → search-from test digits from < from + 2 ^ digits)
+      → search-from test digits (cond passes (found + 2 ^ digits) found) < found + 2 ^ suc digits
+  halved-below digits found true rest = omega (arith, rest (found + 2 ^ digits), two-pow-succ digits)
+  halved-below digits found false rest = omega (arith, rest found, two-pow-succ digits)
+
+  below : (digits found : ℕ) → search-from test digits found < found + 2 ^ digits
+  unfolding search-from
+  below zero found = omega arith
+  below (suc digits) found = halved-below digits found (test (found + 2 ^ digits)) (below digits)
+
+-- no more binary digits than were asked for
+pub greatest-below : (digits : ℕ) (f : ℕ → ℕ) (limit : ℕ) → greatest digits f limit < 2 ^ digits
+greatest-below digits f limit = rw zero-add at (below (λ (w : ℕ). leb (f w) limit) digits 0)
 
 -- a rising f, within the limit at 0 and above it at 2 ^ digits
 module _ (f : ℕ → ℕ) (limit digits : ℕ) (rises : (v w : ℕ) → v ≤ w → f v ≤ f w) (start : f 0 ≤ limit) (above : limit < f (2 ^ digits)) where

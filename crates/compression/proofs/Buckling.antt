@@ -2,7 +2,7 @@
 -- that number. Assumes nothing.
 use mathlib.Core.Path.{_≡_, refl, sym, ap, _∙_}
 use mathlib.Core.Bool.{Bool, true, false, cond}
-use Prim.Native.Nat.{ℕ, _*_, _/_, _^_, _≤_, zero-le}
+use Prim.Native.Nat.{ℕ, _*_, _/_, _^_, _≤_, _<_, zero-le}
 use native.Mathlib.Nat.{mul-zero, mul-assoc, one-mul, pow-suc, pow-zero, mul-le-mul, mul-le-mul-left}
 use native.Mathlib.Omega.{arith}
 use lib.Dec.{eqb}
@@ -10,7 +10,7 @@ use lib.Pow.{pow-add}
 use borrow.Author.Tests.{eqb-true}
 use Rattle.arithmetic.specs.Greatest.{search-from}
 use Rattle.arithmetic.proofs.Bounds.{exactly, _⊗_}
-use Rattle.arithmetic.proofs.Greatest.{only-one, is-greatest, unscaled}
+use Rattle.arithmetic.proofs.Greatest.{only-one, is-greatest, greatest-below, unscaled}
 use Rattle.joint.specs.Ranges.{webs}
 use Rattle.joint.specs.declared.Column.{Column}
 use Rattle.compression.specs.Root.{squareRoot, rootCase, rootMeaning}
@@ -30,6 +30,11 @@ fourth a t = mul-assoc a (t * t) (t * t) ∙ ap (λ (s : ℕ). a * s) (sym (pow-
 root-of-zero : squareRoot 0 ≡ 0
 unfolding squareRoot search-from
 root-of-zero = refl
+
+-- a search of 32 binary digits finds no more
+pub buckling-small : (b yc : ℕ) (column : Column) → webBuckling b yc column < 2 ^ 32
+unfolding webBuckling
+buckling-small b yc column = greatest-below 32 (λ (w : ℕ). 16 * column .clear * (w * w)) (bucklingLimit b yc column)
 
 -- the root of a case is the root
 case-root : (x : ℕ) → rootMeaning (rootCase x) ≡ squareRoot x

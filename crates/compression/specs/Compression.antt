@@ -1,6 +1,8 @@
 -- The four resistances of the compression side, in newtons (rules 5.1 to 5.5). yc and yb stand for `steel .column`
 -- and `steel .beam`. Assumes nothing.
 use Prim.Native.Nat.{ℕ, _+_, _*_, _/_, _^_, _≤_}
+use mathlib.Core.Bool.{cond}
+use lib.Dec.{ltb}
 use Rattle.arithmetic.specs.Greatest.{Greatest, greatest}
 use Rattle.joint.specs.declared.Column.{Column}
 use Rattle.joint.specs.declared.Beam.{Beam}
@@ -34,6 +36,13 @@ IsWebBuckling b yc column = Greatest (λ (w : ℕ). 16 * column .clear * (w * w)
 unfoldable pub webBuckling : (b yc : ℕ) → Column → ℕ
 webBuckling b yc column = greatest 32 (λ (w : ℕ). 16 * column .clear * (w * w)) (bucklingLimit b yc column)
 
+-- rule 5.9: a buckling force w, whole already, is lowered where z is below 0.7×dc, which is 10×z below 7×dc
+unfoldable pub reducedNearEnd : (w : ℕ) → Column → ℕ
+reducedNearEnd w column =
+    let z = column .«end_distance» in
+    let dc = column .clear in
+    cond (ltb (10 * z) (7 * dc)) (w * (10 * z + 7 * dc) / (14 * dc)) w
+
 -- rule 5.5
 unfoldable pub panelShear : (yc : ℕ) → Column → ℕ
 panelShear yc column = 3 * yc * column .web * column .depth / 500
@@ -44,6 +53,6 @@ resistancesOf steel column beam plate welds =
     record {
       flange = beamFlange (steel .beam) beam;
       bearing = webBearing b (steel .column) column;
-      buckling = webBuckling b (steel .column) column;
+      buckling = reducedNearEnd (webBuckling b (steel .column) column) column;
       panel = panelShear (steel .column) column;
     }

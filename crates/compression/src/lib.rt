@@ -1,9 +1,11 @@
 // The compression side of a joint: its four resistances in newtons.
 ghost use mathlib.Core.Path.{_≡_};
+ghost use Prim.Native.Nat.{_<_, _^_};
 ghost use Rattle.arithmetic.specs.Range.{Within};
 ghost use Rattle.joint.specs.InRange.{ColumnInRange, BeamInRange};
 ghost use Rattle.strength.specs.InRange.{yieldStrengths};
-ghost use Rattle.compression.specs.Compression.{bearingLength, beamFlange, webBearing, webBuckling, panelShear, resistancesOf};
+ghost use Rattle.compression.specs.Compression.{bearingLength, beamFlange, webBearing, webBuckling};
+ghost use Rattle.compression.specs.Compression.{reducedNearEnd, panelShear, resistancesOf};
 ghost use Rattle.compression.specs.InRange.{PartsInRange, LengthParts, ColumnWebParts};
 
 mod root;
@@ -39,10 +41,11 @@ pub fn resistances_of(
     ensures { λ r. ⌜ r ≡ resistancesOf steel column beam plate welds ⌝ }
 {
     let b = bearing_length(column, beam, plate, welds);
+    let whole_buckling = web_buckling(b, steel.column, column);
     Resistances {
         flange: beam_flange(steel.beam, beam),
         bearing: web_bearing(b, steel.column, column),
-        buckling: web_buckling(b, steel.column, column),
+        buckling: reduced_near_end(whole_buckling, column),
         panel: panel_shear(steel.column, column),
     }
 }
@@ -86,6 +89,20 @@ fn web_buckling(length: u64, strength: u64, column: Column) -> u64
         Root::Positive(force) => force,
         Root::Zero => 0,
     }
+}
+
+// A buckling force near an end of the column. Both sides of z < 0.7×dc are taken ten times, so that neither is rounded.
+fn reduced_near_end(force: u64, column: Column) -> u64
+    requires { ⌜ (force < 2 ^ 32) × ColumnInRange column ⌝ }
+    ensures { λ r. ⌜ r ≡ reducedNearEnd force column ⌝ }
+{
+    let clear = column.clear as u64;
+    let near = 10 * (column.end_distance as u64);
+    let far = 7 * clear;
+    if near < far {
+        return force * (near + far) / (14 * clear);
+    }
+    force
 }
 
 fn panel_shear(strength: u64, column: Column) -> u64

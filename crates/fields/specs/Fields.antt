@@ -25,9 +25,9 @@ storedAxial (negsuc n) = 2 * n + 1
 unfoldable pub axialOf : ℕ → ℤ
 axialOf x = cond (eqb (x % 2) 0) (pos (x / 2)) (negsuc (x / 2))
 
--- how many fields stand before the levers: 1 to 29
+-- how many fields stand before the levers: 1 to 30
 abbrev pub fieldCount : ℕ
-fieldCount = 29
+fieldCount = 30
 
 -- field k of a file is its k-th number
 abbrev pub field : ℕ → List ℕ → ℕ
@@ -43,6 +43,7 @@ columnOf fields =
       web = field 11 fields;
       radius = field 12 fields;
       clear = field 13 fields;
+      «end_distance» = field 30 fields;
     }
 
 abbrev pub boltsOf : List ℕ → Bolts
@@ -103,4 +104,4 @@ fieldsOf joint =
     ∷ column .depth ∷ column .width ∷ column .flange ∷ column .web ∷ column .radius ∷ column .clear
     ∷ beam .depth ∷ beam .width ∷ beam .flange ∷ beam .web ∷ plate .width ∷ plate .thickness
     ∷ layout .gauge ∷ layout .edge ∷ layout .alpha ∷ welds .flange ∷ welds .web ∷ welds .length ∷ face .«shear_rows»
-    ∷ storedAxial (loads .axial) ∷ loads .shear ∷ loads .moment ∷ []
+    ∷ storedAxial (loads .axial) ∷ loads .shear ∷ loads .moment ∷ column .«end_distance» ∷ []

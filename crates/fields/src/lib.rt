@@ -15,8 +15,8 @@ ghost use lib.ListN.{length};
 ghost use Rattle.fields.specs.Fields.{fieldCount, axialOf, storedAxial, columnOf, boltsOf, beamOf, plateOf, layoutOf, weldsOf};
 ghost use Rattle.fields.specs.Fields.{loadsOf, faceOf, jointOf, fieldsOf};
 
-// How many fields stand before the levers: 1 to 29.
-pub const FIELD_COUNT: usize = 29;
+// How many fields stand before the levers: 1 to 30.
+pub const FIELD_COUNT: usize = 30;
 
 // The axial force that a number of the file stands for.
 fn axial_of(x: u32) -> i32
@@ -49,6 +49,7 @@ fn column_of(fields: &[u32]) -> Column
         web: fields[10],
         radius: fields[11],
         clear: fields[12],
+        end_distance: fields[29],
     }
 }
 
@@ -183,5 +184,6 @@ pub fn fields_of(joint: Joint) -> [u32; FIELD_COUNT]
         axial,
         loads.shear,
         loads.moment,
+        joint.column.end_distance,
     ]
 }

@@ -42,7 +42,7 @@ module _ (xs ys : List Check) where
 module _ (rows row : ℕ) (hs : List ℕ) where
   pub next-lever : row < length hs
       → leverChecks rows row (drop row hs)
-      ≡ ((30 + row, within (levers rows row) (getD hs row 0)) ∷ []) ++ leverChecks rows (row + 1) (drop (row + 1) hs)
+      ≡ ((31 + row, within (levers rows row) (getD hs row 0)) ∷ []) ++ leverChecks rows (row + 1) (drop (row + 1) hs)
   unfolding leverChecks
   next-lever h = rw (add-one, drop-cons hs row 0)
 
@@ -57,7 +57,7 @@ module _ (column : Column) (bolts : Bolts) (face : Face) where
   from-levers = leverChecks (face .rows) 0 (face .levers)
 
   abbrev pub from-loads : List Check
-  from-loads = loadChecks (face .loads) ++ from-levers
+  from-loads = loadChecks (face .loads) (column .«end_distance») ++ from-levers
 
   abbrev pub from-welds : List Check
   from-welds = weldChecks (face .welds) (face .«shear_rows») ++ from-loads

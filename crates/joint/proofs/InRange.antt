@@ -18,7 +18,7 @@ use Rattle.arithmetic.specs.Range.{Within, within, _to_}
 use Rattle.arithmetic.proofs.Checks.{all-hold}
 use Rattle.arithmetic.proofs.Bounds.{within-yes}
 use Rattle.joint.specs.Ranges.{rowCounts, flags, depths, widths, flanges, webs, radii, clears, plateWidths, thicknesses}
-use Rattle.joint.specs.Ranges.{gauges, edges, alphas, legs, weldLengths, shearRowCounts, loads, mostLever, levers}
+use Rattle.joint.specs.Ranges.{gauges, edges, alphas, legs, weldLengths, shearRowCounts, loads, endDistances, mostLever, levers}
 use Rattle.joint.specs.Fields.{fieldCheck, fieldChecks, fixedChecks, leverChecks, withinBothSigns}
 use Rattle.joint.specs.InRange.{InRange, FaceInRange}
 use Rattle.joint.specs.declared.Column.{Column}
@@ -57,10 +57,10 @@ module _ (column : Column) (bolts : Bolts) (face : Face) (found : fieldCheck col
       let n = face .rows in
       let hs = face .levers in
       let after-fixed = getD-append-add (fixedChecks column bolts face) (leverChecks n 0 hs) row (0, true) in
-      let test-at : test (fieldChecks column bolts face) (29 + row) ≡ within (levers n row) (getD hs row 0) =
+      let test-at : test (fieldChecks column bolts face) (30 + row) ≡ within (levers n row) (getD hs row 0) =
       ap (λ (check : Check). check .1) after-fixed ∙ lever-test n 0 hs row h
       ∙ ap (λ (i : ℕ). within (levers n i) (getD hs row 0)) (zero-add row) in
-      within-yes (levers n row) (getD hs row 0) (subst (λ (b : Bool). T b) test-at (held (29 + row)))
+      within-yes (levers n row) (getD hs row 0) (subst (λ (b : Bool). T b) test-at (held (30 + row)))
 
   pub in-range : InRange column bolts face
   unfolding fieldChecks fixedChecks
@@ -79,6 +79,7 @@ module _ (column : Column) (bolts : Bolts) (face : Face) (found : fieldCheck col
           web = within-yes webs (column .web) (field 11);
           radius = within-yes radii (column .radius) (field 12);
           clear = within-yes clears (column .clear) (field 13);
+          end-distance = within-yes endDistances (column .«end_distance») (field 30);
         };
         bolts = record { class = field 3; diameter = field 4 };
         face = record {

@@ -1,5 +1,5 @@
 -- Rules 2.1 and 11.2, Work's refusal 10: each field's number with the test that it is in range, and the
--- first that fails. The list has fields 1 to 37, the eight levers with those that the file leaves out. Assumes nothing.
+-- first that fails. The list has fields 1 to 38, the eight levers with those that the file leaves out. Assumes nothing.
 use Prim.Native.Nat.{ℕ, suc, _+_}
 use mathlib.Core.Bool.{Bool, _&&_}
 use mathlib.Core.List.{List, [], _∷_, _++_}
@@ -9,7 +9,7 @@ use Rattle.arithmetic.specs.Checks.{Check, firstFailing}
 use Rattle.arithmetic.specs.Range.{within}
 use Rattle.arithmetic.specs.Table.{oneOf}
 use Rattle.joint.specs.Ranges.{rowCounts, flags, classes, diameters, grades, depths, widths, flanges, webs, radii, clears}
-use Rattle.joint.specs.Ranges.{plateWidths, thicknesses, gauges, edges, alphas, legs, weldLengths, shearRowCounts, loads, levers}
+use Rattle.joint.specs.Ranges.{plateWidths, thicknesses, gauges, edges, alphas, legs, weldLengths, shearRowCounts, loads, endDistances, levers}
 use Rattle.joint.specs.declared.Column.{Column}
 use Rattle.joint.specs.declared.Bolts.{Bolts}
 use Rattle.joint.specs.declared.Beam.{Beam}
@@ -77,17 +77,21 @@ weldChecks welds shearRows =
 abbrev pub withinBothSigns : ℤ → Bool
 withinBothSigns force = leZ (negℤ (pos (loads .high))) force && leZ force (pos (loads .high))
 
--- 27 to 29
-abbrev pub loadChecks : Loads → List Check
-loadChecks forces =
-    (27, withinBothSigns (forces .axial)) ∷ (28, within loads (forces .shear)) ∷ (29, within loads (forces .moment)) ∷ []
+-- 27 to 30
+abbrev pub loadChecks : Loads → (endDistance : ℕ) → List Check
+loadChecks forces endDistance =
+    (27, withinBothSigns (forces .axial))
+    ∷ (28, within loads (forces .shear))
+    ∷ (29, within loads (forces .moment))
+    ∷ (30, within endDistances endDistance)
+    ∷ []
 
--- 29 + k for row k, which counts from 1: 30 and on for the levers from `row`, which counts from 0
+-- 30 + k for row k, which counts from 1: 31 and on for the levers from `row`, which counts from 0
 unfoldable pub leverChecks : (n row : ℕ) → List ℕ → List Check
 leverChecks n row [] = []
-leverChecks n row (h ∷ hs) = (30 + row, within (levers n row) h) ∷ leverChecks n (suc row) hs
+leverChecks n row (h ∷ hs) = (31 + row, within (levers n row) h) ∷ leverChecks n (suc row) hs
 
--- 1 to 29
+-- 1 to 30
 unfoldable pub fixedChecks : Column → Bolts → Face → List Check
 fixedChecks column bolts face =
     headChecks (face .rows) (face .extended) bolts
@@ -96,7 +100,7 @@ fixedChecks column bolts face =
     ++ beamChecks (face .beam)
     ++ plateChecks (face .extended) (face .plate) (face .layout)
     ++ weldChecks (face .welds) (face .«shear_rows»)
-    ++ loadChecks (face .loads)
+    ++ loadChecks (face .loads) (column .«end_distance»)
 
 -- all fields of a joint with one beam, which is on this face
 unfoldable pub fieldChecks : Column → Bolts → Face → List Check

@@ -7,7 +7,7 @@ use lib.ListN.{length, getD}
 use Rattle.arithmetic.specs.Range.{Within}
 use Rattle.arithmetic.specs.Table.{oneOf}
 use Rattle.joint.specs.Ranges.{rowCounts, flags, classes, diameters, grades, depths, widths, flanges, webs, radii, clears}
-use Rattle.joint.specs.Ranges.{plateWidths, thicknesses, gauges, edges, alphas, legs, weldLengths, shearRowCounts, loads, levers}
+use Rattle.joint.specs.Ranges.{plateWidths, thicknesses, gauges, edges, alphas, legs, weldLengths, shearRowCounts, loads, endDistances, levers}
 use Rattle.joint.specs.declared.Column.{Column}
 use Rattle.joint.specs.declared.Bolts.{Bolts}
 use Rattle.joint.specs.declared.Beam.{Beam}
@@ -25,6 +25,7 @@ pub record ColumnInRange (column : Column) : Type 0 where
   pub web : Within webs (column .web)
   pub radius : Within radii (column .radius)
   pub clear : Within clears (column .clear)
+  pub end-distance : Within endDistances (column .«end_distance»)
 
 pub record BoltsInRange (bolts : Bolts) : Type 0 where
   pub class : T (oneOf classes (bolts .class))

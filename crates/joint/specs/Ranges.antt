@@ -76,10 +76,14 @@ shearRowCounts = 0 to 8
 abbrev pub loads : Range
 loads = 0 to 10000000
 
+-- field 30: z
+abbrev pub endDistances : Range
+endDistances = 1 to 15000
+
 -- the greatest lever
 abbrev pub mostLever : ℕ
 mostLever = 20000
 
--- field 29+k: h of row k, spare levers past row n; `row` counts from 0
+-- field 30+k: h of row k, spare levers past row n; `row` counts from 0
 abbrev pub levers : (n row : ℕ) → Range
 levers n row = cond (ltb row n) (1 to mostLever) (0 to 0)

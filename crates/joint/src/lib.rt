@@ -10,7 +10,7 @@ ghost use Rattle.joint.specs.Fields.{fieldCheck, headChecks, gradeChecks
 ghost use Rattle.joint.specs.Fields.{plateChecks, weldChecks, loadChecks, leverChecks};
 ghost use Rattle.joint.specs.Steps.{foundBy, Adds};
 
-// Fields 5 and 8 to 13.
+// Fields 5, 8 to 13 and 30.
 pub struct Column {
     // 5: steel grade, 275 or 355
     pub grade: u32,
@@ -26,6 +26,8 @@ pub struct Column {
     pub radius: u32,
     // 13: depth between fillets dc
     pub clear: u32,
+    // 30: z, from the compression force to the nearer end of the column
+    pub end_distance: u32,
 }
 
 // Fields 3 and 4.
@@ -103,7 +105,7 @@ pub struct Face {
     // 26: count of rows that only take shear
     pub shear_rows: u32,
     pub loads: Loads,
-    // 29+k: lever arm h of row k, from the centre of the compression flange; 0 past row n
+    // 30+k: lever arm h of row k, from the centre of the compression flange; 0 past row n
     pub levers: [u32; 8],
 }
 
@@ -165,7 +167,7 @@ pub fn check_fields(column: Column, bolts: Bolts, face: Face) -> FieldCheck
     let FieldCheck::AllInRange = weld_check else {
         return weld_check;
     };
-    let load_check = check_loads(face.loads);
+    let load_check = check_loads(face.loads, column.end_distance);
     let FieldCheck::AllInRange = load_check else {
         return load_check;
     };
@@ -283,9 +285,9 @@ fn check_welds(welds: Welds, shear_rows: u32) -> FieldCheck
     ranged(length, 26, shear_rows, 0, 8)
 }
 
-// Fields 27 to 29.
-fn check_loads(loads: Loads) -> FieldCheck
-    ensures { λ r. ⌜ r ≡ foundBy (loadChecks loads) ⌝ }
+// Fields 27 to 30: the loads, and where on the column they come in.
+fn check_loads(loads: Loads, end_distance: u32) -> FieldCheck
+    ensures { λ r. ⌜ r ≡ foundBy (loadChecks loads «end_distance») ⌝ }
 {
     let n = loads.axial;
     let axial = keep(
@@ -294,10 +296,11 @@ fn check_loads(loads: Loads) -> FieldCheck
         (-10000000 <= n) & (n <= 10000000),
     );
     let shear = ranged(axial, 28, loads.shear, 0, 10000000);
-    ranged(shear, 29, loads.moment, 0, 10000000)
+    let moment = ranged(shear, 29, loads.moment, 0, 10000000);
+    ranged(moment, 30, end_distance, 1, 15000)
 }
 
-// Fields 30 to 37: the levers of the rows, and the spare ones, which are 0.
+// Fields 31 to 38: the levers of the rows, and the spare ones, which are 0.
 fn check_levers(rows: u32, levers: [u32; 8]) -> FieldCheck
     ensures { λ r. ⌜ r ≡ foundBy (leverChecks rows 0 levers) ⌝ }
 {
@@ -306,7 +309,7 @@ fn check_levers(rows: u32, levers: [u32; 8]) -> FieldCheck
         let used = row < rows;
         let found = ranged(
             FieldCheck::AllInRange,
-            30 + row,
+            31 + row,
             levers[row as usize],
             chosen(used, 1, 0),
             chosen(used, 20000, 0),

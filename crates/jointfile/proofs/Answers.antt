@@ -9,7 +9,7 @@ use native.Mathlib.Nat.{sub-zero, zero-sub}
 use borrow.Author.Tests.{leb-true}
 use lib.Dec.{leb}
 use lib.ListN.{length, getD, take, drop, replicate, length-drop}
-use Rattle.arithmetic.specs.Range.{within}
+use Rattle.arithmetic.specs.Range.{Within, within, _to_}
 use Rattle.arithmetic.proofs.Checks.{holds, fails}
 use Rattle.joint.specs.Ranges.{rowCounts}
 use Rattle.joint.specs.Places.{eightPlaces}
@@ -19,10 +19,12 @@ use Rattle.numbers.specs.Parse.{got, refused}
 use Rattle.numbers.specs.Answers.{NumberRead}
 use Rattle.numbers.specs.declared.number.Number.the-variants.{Value, Refused}
 use Rattle.numbers.proofs.Sizes.{storedAll-append}
-use Rattle.fields.specs.Fields.{jointOf, fieldsOf}
-use Rattle.jointfile.specs.File.{otherFieldCount, readOthers, readJoint, answer}
+use Rattle.fields.specs.Fields.{fieldCount, jointOf, fieldsOf}
+use Rattle.jointfile.specs.File.{lacking, storedFieldCount, otherFieldCount, readOthers, readJoint, answer}
 use Rattle.jointfile.specs.Write.{fileOf, file, wrote, turnedDown, roomCheck, writing}
 use Rattle.jointfile.specs.Answers.{writingIfRoom, writingRows}
+use Rattle.jointfile.specs.declared.FileKind.{FileKind}
+use Rattle.jointfile.specs.declared.FileKind.the-variants.{Old, New}
 
 -- ---- the number of rows
 
@@ -42,20 +44,38 @@ pub levers-eight : (rows : ℕ) (levers : List ℕ) → length levers ≡ rows �
 unfolding eightPlaces
 levers-eight rows levers e = rw (e, drop-replicate rows 8)
 
+-- ---- the fields in an array of all: those that a kind lacks stand at its end
+
+pub stored-count : (kind : FileKind) → Within (1 to fieldCount) (storedFieldCount kind)
+stored-count Old = record { low = omega arith; high = omega arith }
+stored-count New = record { low = omega arith; high = omega arith }
+
+-- the places after field 1 before any of them is read
+abbrev pub unread : List ℕ
+unread = replicate (fieldCount - 2) 0 ++ lacking Old
+
+pub lent-fields : (kind : FileKind) → length (take (otherFieldCount kind) unread) ≡ otherFieldCount kind
+lent-fields Old = refl
+lent-fields New = refl
+
+pub kept-fields : (kind : FileKind) → drop (otherFieldCount kind) unread ≡ lacking kind
+kept-fields Old = refl
+kept-fields New = refl
+
 -- ---- what follows field 1
 
-module _ (bytes : List ℕ) (rows : ℕ) where
-  pub others-refused : (r : ℕ) → refused r ≡ readNumbers otherFieldCount bytes → readOthers rows bytes ≡ refused r
+module _ (kind : FileKind) (bytes : List ℕ) (rows : ℕ) where
+  pub others-refused : (r : ℕ) → refused r ≡ readNumbers (otherFieldCount kind) bytes → readOthers kind rows bytes ≡ refused r
   unfolding readOthers
   others-refused r e = rw (sym e)
 
-  module _ (others rest : List ℕ) (read : got others rest ≡ readNumbers otherFieldCount bytes) where
-    pub levers-refused : (r : ℕ) → refused r ≡ readNumbers rows rest → readOthers rows bytes ≡ refused r
+  module _ (others rest : List ℕ) (read : got others rest ≡ readNumbers (otherFieldCount kind) bytes) where
+    pub levers-refused : (r : ℕ) → refused r ≡ readNumbers rows rest → readOthers kind rows bytes ≡ refused r
     unfolding readOthers
     levers-refused r e = rw (sym read, sym e)
 
     pub levers-got : (levers left : List ℕ) → got levers left ≡ readNumbers rows rest
-        → readOthers rows bytes ≡ got (jointOf (rows ∷ others) (eightPlaces levers)) left
+        → readOthers kind rows bytes ≡ got (jointOf (rows ∷ others ++ lacking kind) (eightPlaces levers)) left
     unfolding readOthers
     levers-got levers left e = rw (sym read, sym e)
 
@@ -68,17 +88,17 @@ answer-got bytes joint next within =
 
 -- ---- field 1
 
-module _ {bytes : List ℕ} where
-  pub first-refused : {r : ℕ} → NumberRead bytes 0 (Refused r) → readJoint bytes ≡ refused r
+module _ (kind : FileKind) {bytes : List ℕ} where
+  pub first-refused : {r : ℕ} → NumberRead bytes 0 (Refused r) → readJoint kind bytes ≡ refused r
   unfolding readJoint
   first-refused read = rw (sym (read .means))
 
   module _ {rows next : ℕ} (read : NumberRead bytes 0 (Value rows next)) where
-    pub rows-refused : within rowCounts rows ≡ false → readJoint bytes ≡ refused 3
+    pub rows-refused : within rowCounts rows ≡ false → readJoint kind bytes ≡ refused 3
     unfolding readJoint
     rows-refused e = rw (sym (read .means), e)
 
-    pub rows-taken : within rowCounts rows ≡ true → readJoint bytes ≡ readOthers rows (drop next bytes)
+    pub rows-taken : within rowCounts rows ≡ true → readJoint kind bytes ≡ readOthers kind rows (drop next bytes)
     unfolding readJoint
     rows-taken e = rw (sym (read .means), e)
 
@@ -106,9 +126,9 @@ module _ (fields : List ℕ) (rows : ℕ) (levers buffer : List ℕ) where
 module _ (joint : Joint) (buffer : List ℕ) where
   pub writing-refused : within rowCounts (joint .face .rows) ≡ false → turnedDown buffer 3 ≡ writing joint buffer
   unfolding writing
-  writing-refused e = sym (fails (wrote buffer (file joint)) (turnedDown buffer) 3 _ _ e)
+  writing-refused e = sym (fails (wrote buffer (file New joint)) (turnedDown buffer) 3 _ _ e)
 
   pub writing-rows : within rowCounts (joint .face .rows) ≡ true
       → writingRows (fieldsOf joint) (joint .face .rows) (joint .face .levers) buffer ≡ writing joint buffer
-  unfolding writing writingRows
-  writing-rows e = sym (holds (wrote buffer (file joint)) (turnedDown buffer) 3 _ _ e)
+  unfolding writing writingRows fieldsOf
+  writing-rows e = sym (holds (wrote buffer (file New joint)) (turnedDown buffer) 3 _ _ e)

@@ -14,36 +14,38 @@ use Rattle.numbers.specs.Parse.{Parse, got, refused}
 use Rattle.numbers.specs.Number.{readNumber}
 use Rattle.numbers.proofs.Refusals.{Numbered, numbered-cond, numbered-then, numbered-number, numbered-numbers}
 use Rattle.jointfile.specs.File.{otherFieldCount, readOthers, readJoint, answer, reading, leftOf, restOf}
+use Rattle.jointfile.specs.declared.FileKind.{FileKind}
 use Rattle.jointfile.proofs.Ends.{joint-end}
 
-pub next-within : (bytes : List ℕ) → reading bytes .next ≤ length bytes
-next-within bytes = go (readJoint bytes)
+pub next-within : (kind : FileKind) (bytes : List ℕ) → reading kind bytes .next ≤ length bytes
+next-within kind bytes = go (readJoint kind bytes)
   where
     go : (parse : Parse Joint) → answer (length bytes) parse .next ≤ length bytes
     go (got joint rest) = omega arith
     go (refused r) = omega arith
 
-pub next-left : (bytes : List ℕ) → drop (reading bytes .next) bytes ≡ restOf bytes
-next-left bytes = go (readJoint bytes) refl
+pub next-left : (kind : FileKind) (bytes : List ℕ) → drop (reading kind bytes .next) bytes ≡ restOf kind bytes
+next-left kind bytes = go (readJoint kind bytes) refl
   where
-    go : (parse : Parse Joint) → readJoint bytes ≡ parse → drop (answer (length bytes) parse .next) bytes ≡ leftOf parse
-    go (got joint rest) e = sym (joint-end bytes joint rest e .is)
+    go : (parse : Parse Joint) → readJoint kind bytes ≡ parse → drop (answer (length bytes) parse .next) bytes ≡ leftOf parse
+    go (got joint rest) e = sym (joint-end kind bytes joint rest e .is)
     go (refused r) e = drop-length bytes
 
 -- ---- no refusal has the number 0
 
-numbered-joint : (bytes : List ℕ) → Numbered (readJoint bytes)
+numbered-joint : (kind : FileKind) (bytes : List ℕ) → Numbered (readJoint kind bytes)
 unfolding readJoint readOthers
-numbered-joint bytes =
+numbered-joint kind bytes =
     numbered-then (readNumber bytes) _ (numbered-number 0 bytes)
     (λ rows rest. numbered-cond (within rowCounts rows) _ _
-    (numbered-then (readNumbers otherFieldCount rest) _ (numbered-numbers otherFieldCount rest)
+    (numbered-then (readNumbers (otherFieldCount kind) rest) _ (numbered-numbers (otherFieldCount kind) rest)
     (λ others more. numbered-then (readNumbers rows more) _ (numbered-numbers rows more) (λ levers end. tt)))
     (omega arith))
 
 -- Refusal 0: a joint was read, and it is the one that is answered.
-pub read-taken : (bytes : List ℕ) → reading bytes .refusal ≡ 0 → readJoint bytes ≡ got (reading bytes .joint) (restOf bytes)
-read-taken bytes = go (readJoint bytes) (numbered-joint bytes)
+pub read-taken : (kind : FileKind) (bytes : List ℕ) → reading kind bytes .refusal ≡ 0
+    → readJoint kind bytes ≡ got (reading kind bytes .joint) (restOf kind bytes)
+read-taken kind bytes = go (readJoint kind bytes) (numbered-joint kind bytes)
   where
     go : (parse : Parse Joint) → Numbered parse → answer (length bytes) parse .refusal ≡ 0
         → parse ≡ got (answer (length bytes) parse .joint) (leftOf parse)
@@ -51,8 +53,9 @@ read-taken bytes = go (readJoint bytes) (numbered-joint bytes)
     go (refused r) numbered e = absurd (omega arith)
 
 -- Any other: that is why none was.
-pub read-refused : (bytes : List ℕ) → (reading bytes .refusal ≡ 0 → ⊥) → readJoint bytes ≡ refused (reading bytes .refusal)
-read-refused bytes = go (readJoint bytes)
+pub read-refused : (kind : FileKind) (bytes : List ℕ) → (reading kind bytes .refusal ≡ 0 → ⊥)
+    → readJoint kind bytes ≡ refused (reading kind bytes .refusal)
+read-refused kind bytes = go (readJoint kind bytes)
   where
     go : (parse : Parse Joint) → (answer (length bytes) parse .refusal ≡ 0 → ⊥)
         → parse ≡ refused (answer (length bytes) parse .refusal)

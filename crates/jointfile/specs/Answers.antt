@@ -1,5 +1,5 @@
 -- What the code's answer to writing means, what its steps require, and which joints the round trip is about. Assumes nothing.
-use Prim.Native.Nat.{ℕ, _+_, _*_, _^_, _≤_, _<_}
+use Prim.Native.Nat.{ℕ, _+_, _-_, _*_, _^_, _≤_, _<_}
 use mathlib.Core.Path.{_≡_}
 use mathlib.Core.List.{List, [], _∷_}
 use mathlib.Core.Bool.{true}
@@ -9,8 +9,9 @@ use Rattle.joint.specs.Ranges.{rowCounts}
 use Rattle.joint.specs.declared.Joint.{Joint}
 use Rattle.numbers.specs.Run.{allZero}
 use Rattle.fields.specs.Fields.{fieldCount, fieldsOf}
-use Rattle.jointfile.specs.File.{otherFieldCount}
+use Rattle.jointfile.specs.File.{lacking, storedFieldCount}
 use Rattle.jointfile.specs.Write.{fileOf, Writing, turnedDown, spareCheck, roomCheck, tried}
+use Rattle.jointfile.specs.declared.FileKind.{FileKind}
 use Rattle.jointfile.specs.declared.Written.{Written}
 use Rattle.jointfile.specs.declared.Written.the-variants.{Length, Refused}
 
@@ -29,11 +30,11 @@ writingRows fields rows levers buffer =
     let bytes = fileOf fields rows levers in
     tried bytes buffer (spareCheck rows levers ∷ roomCheck bytes buffer ∷ [])
 
--- No file is longer: field 1 takes one byte, each of the other fields and of the eight levers at most five.
+-- No file of the new kind is longer: field 1 takes one byte, each of the other fields and of the eight levers at most five.
 abbrev pub mostFile : ℕ
-mostFile = 1 + 5 * (otherFieldCount + 8)
+mostFile = 1 + 5 * (fieldCount - 1 + 8)
 
--- No file is shorter: a byte for each field and for one lever.
+-- No file of the new kind is shorter: a byte for each field and for one lever.
 abbrev pub leastFile : ℕ
 leastFile = fieldCount + 1
 
@@ -54,3 +55,7 @@ pub record Held (joint : Joint) : Type 0 where
 pub record Writable (joint : Joint) : Type 0 where
   pub rows : within rowCounts (joint .face .rows) ≡ true
   pub spare : allZero (drop (joint .face .rows) (joint .face .levers)) ≡ true
+
+-- A joint that a file of this kind tells whole: the fields that the file lacks are those that reading gives.
+abbrev pub ToldBy : FileKind → Joint → Type 0
+ToldBy kind joint = drop (storedFieldCount kind) (fieldsOf joint) ≡ lacking kind

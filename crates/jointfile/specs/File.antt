@@ -1,7 +1,7 @@
--- Reading a joint file (rules 9.3 to 9.5): field 1, the other fields and a lever for each row, one number after another, with the
--- refusal of the first trouble; and what is left after it. Assumes nothing.
+-- Reading a joint file of either kind (rules 9.3 to 9.5 and 9.7): field 1, the other fields and a lever for each row, one number after
+-- another, with the refusal of the first trouble; and what is left after it. Assumes nothing.
 use Prim.Native.Nat.{ℕ, _-_}
-use mathlib.Core.List.{List, [], _∷_}
+use mathlib.Core.List.{List, [], _∷_, _++_}
 use mathlib.Core.Bool.{cond}
 use lib.ListN.{length, replicate}
 use Rattle.arithmetic.specs.Range.{within}
@@ -12,21 +12,33 @@ use Rattle.numbers.specs.Parse.{Parse, got, refused, andThen}
 use Rattle.numbers.specs.Number.{readNumber}
 use Rattle.numbers.specs.Run.{readNumbers}
 use Rattle.fields.specs.Fields.{fieldCount, jointOf}
+use Rattle.jointfile.specs.declared.FileKind.{FileKind}
+use Rattle.jointfile.specs.declared.FileKind.the-variants.{Old, New}
 use Rattle.jointfile.specs.declared.Reading.{Reading}
 
--- how many fields stand between field 1 and the levers
-abbrev pub otherFieldCount : ℕ
-otherFieldCount = fieldCount - 1
+-- rule 9.7: the last of the fields before the levers that a kind of file lacks, as a joint that is read from it has them: z is 15000
+abbrev pub lacking : FileKind → List ℕ
+lacking Old = 15000 ∷ []
+lacking New = []
+
+-- how many fields stand before a file's levers, and how many of them after field 1
+abbrev pub storedFieldCount : FileKind → ℕ
+storedFieldCount kind = fieldCount - length (lacking kind)
+
+abbrev pub otherFieldCount : FileKind → ℕ
+otherFieldCount kind = storedFieldCount kind - 1
 
 -- what follows field 1: the other fields, and the levers of the rows
-unfoldable pub readOthers : ℕ → List ℕ → Parse Joint
-readOthers rows bytes =
-    andThen (readNumbers otherFieldCount bytes)
-    (λ others left. andThen (readNumbers rows left) (λ levers rest. got (jointOf (rows ∷ others) (eightPlaces levers)) rest))
+unfoldable pub readOthers : FileKind → ℕ → List ℕ → Parse Joint
+readOthers kind rows bytes =
+    andThen (readNumbers (otherFieldCount kind) bytes)
+    (λ others left. andThen (readNumbers rows left)
+    (λ levers rest. got (jointOf (rows ∷ others ++ lacking kind) (eightPlaces levers)) rest))
 
 -- A joint: 3 is told when field 1 is read, before anything of field 2 is; no other range is looked at.
-unfoldable pub readJoint : List ℕ → Parse Joint
-readJoint bytes = andThen (readNumber bytes) (λ rows left. cond (within rowCounts rows) (readOthers rows left) (refused 3))
+unfoldable pub readJoint : FileKind → List ℕ → Parse Joint
+readJoint kind bytes =
+    andThen (readNumber bytes) (λ rows left. cond (within rowCounts rows) (readOthers kind rows left) (refused 3))
 
 -- What stands in the joint's place in a refusal: every field is 0.
 unfoldable pub noJoint : Joint
@@ -37,13 +49,13 @@ abbrev pub answer : ℕ → Parse Joint → Reading
 answer end (got joint left) = record { refusal = 0; joint = joint; next = end - length left }
 answer end (refused r) = record { refusal = r; joint = noJoint; next = end }
 
-abbrev pub reading : List ℕ → Reading
-reading bytes = answer (length bytes) (readJoint bytes)
+abbrev pub reading : FileKind → List ℕ → Reading
+reading kind bytes = answer (length bytes) (readJoint kind bytes)
 
 -- the bytes after the first joint, none where it can't be read
 abbrev pub leftOf : Parse Joint → List ℕ
 leftOf (got joint left) = left
 leftOf (refused r) = []
 
-abbrev pub restOf : List ℕ → List ℕ
-restOf bytes = leftOf (readJoint bytes)
+abbrev pub restOf : FileKind → List ℕ → List ℕ
+restOf kind bytes = leftOf (readJoint kind bytes)

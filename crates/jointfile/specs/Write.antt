@@ -11,13 +11,17 @@ use Rattle.joint.specs.declared.Joint.{Joint}
 use Rattle.buffers.specs.Put.{atFront}
 use Rattle.numbers.specs.Run.{storedAll, allZero}
 use Rattle.fields.specs.Fields.{fieldsOf}
+use Rattle.jointfile.specs.File.{storedFieldCount}
+use Rattle.jointfile.specs.declared.FileKind.{FileKind}
+use Rattle.jointfile.specs.declared.FileKind.the-variants.{New}
 
 -- the numbers of a file: the fields, and a lever for each row
 unfoldable pub fileOf : List ℕ → ℕ → List ℕ → List ℕ
 fileOf fields rows levers = storedAll (fields ++ take rows levers)
 
-abbrev pub file : Joint → List ℕ
-file joint = fileOf (fieldsOf joint) (joint .face .rows) (joint .face .levers)
+-- the file of a joint; the old kind's is the new one less what it lacks, z
+abbrev pub file : FileKind → Joint → List ℕ
+file kind joint = fileOf (take (storedFieldCount kind) (fieldsOf joint)) (joint .face .rows) (joint .face .levers)
 
 -- What writing gives: the refusal's number or 0, the file's length or 0, and the buffer at exit.
 pub record Writing : Type 0 where
@@ -47,8 +51,9 @@ roomCheck bytes buffer = (5, leb (length bytes) (length buffer))
 abbrev pub tried : (bytes buffer : List ℕ) → List Check → Writing
 tried bytes buffer checks = firstFailing (wrote buffer bytes) (turnedDown buffer) checks
 
--- rule 9.6: they are tried in this order
+-- rule 9.6: they are tried in this order, and the file is of the new kind
 unfoldable pub writing : Joint → List ℕ → Writing
 writing joint buffer =
     let face = joint .face in
-    tried (file joint) buffer (rowsCheck (face .rows) ∷ spareCheck (face .rows) (face .levers) ∷ roomCheck (file joint) buffer ∷ [])
+    let bytes = file New joint in
+    tried bytes buffer (rowsCheck (face .rows) ∷ spareCheck (face .rows) (face .levers) ∷ roomCheck bytes buffer ∷ [])

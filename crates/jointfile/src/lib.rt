@@ -1,5 +1,5 @@
 // Joint files: `read` takes a joint off the front of any bytes, `rest` is what is left after it, and `write` puts a joint's file into a
-// lent buffer. Each goes over the bytes once, from front to back. Two things are done twice, for a reason. `write` measures the
+// lent buffer. Reading is told which kind of file it is, and writing makes the new kind. Each goes over the bytes once, from front to back. Two things are done twice, for a reason. `write` measures the
 // numbers before it puts them where the buffer may be too short for them, since such a buffer stays untouched. And `rest` reads the
 // joint again; a caller that has `read`'s answer need not ask it, since the bytes from the answer's next place on are what is left.
 use fields::FIELD_COUNT;
@@ -23,9 +23,28 @@ ghost use lib.Dec.{leb};
 ghost use lib.ListN.{length, getD, drop};
 ghost use Rattle.numbers.specs.Parse.{refused};
 ghost use Rattle.numbers.specs.Run.{storedAll};
-ghost use Rattle.jointfile.specs.File.{readOthers, answer, reading, restOf};
+ghost use Rattle.jointfile.specs.File.{storedFieldCount, readOthers, answer, reading, restOf};
 ghost use Rattle.jointfile.specs.Write.{writing};
 ghost use Rattle.jointfile.specs.Answers.{writtenMeaning, writingIfRoom, writingRows, FileParts};
+
+// The kinds of joint file. The old one has no z, field 30.
+pub enum FileKind {
+    Old,
+    New,
+}
+
+// How many fields stand before the levers of a file.
+fn stored_field_count(kind: FileKind) -> usize
+    ensures { λ r. ⌜ r ≡ storedFieldCount kind ⌝ }
+{
+    match kind {
+        FileKind::Old => FIELD_COUNT - 1,
+        FileKind::New => FIELD_COUNT,
+    }
+}
+
+// z where the file lacks it.
+const UNTOLD_END_DISTANCE: u32 = 15000;
 
 // What `read` answers.
 pub struct Reading {
@@ -50,14 +69,16 @@ fn no_joint(refusal: u32, end: usize) -> Reading
     }
 }
 
-// Reads what follows field 1.
-fn read_others(bytes: &[u8], rows: u32, from: usize) -> Reading
+// Reads what follows field 1. The last field stays as it is put here where the file lacks it.
+fn read_others(bytes: &[u8], kind: FileKind, rows: u32, from: usize) -> Reading
     requires { ⌜ (rows ≤ 8) × (from ≤ length (now bytes)) ⌝ }
-    ensures { λ r. ⌜ r ≡ answer (length (now (bytes .entry))) (readOthers rows (drop from (now (bytes .entry)))) ⌝ }
+    ensures { λ r. ⌜ r ≡ answer (length (now (bytes .entry))) (readOthers kind rows (drop from (now (bytes .entry)))) ⌝ }
 {
     let mut fields = [0u32; FIELD_COUNT];
     fields[0] = rows;
-    let others = numbers_at(bytes, from, &mut fields[1..]);
+    fields[FIELD_COUNT - 1] = UNTOLD_END_DISTANCE;
+    let stored = stored_field_count(kind);
+    let others = numbers_at(bytes, from, &mut fields[1..stored]);
     let Run::Next(after) = others else {
         return no_joint(run_refusal(others), bytes.len());
     };
@@ -75,24 +96,24 @@ fn read_others(bytes: &[u8], rows: u32, from: usize) -> Reading
 }
 
 // The joint that the bytes begin with. Refusal 3 is told as soon as field 1 is read.
-pub fn read(bytes: &[u8]) -> Reading
-    ensures { λ r. ⌜ r ≡ reading (now (bytes .entry)) ⌝ }
+pub fn read(bytes: &[u8], kind: FileKind) -> Reading
+    ensures { λ r. ⌜ r ≡ reading kind (now (bytes .entry)) ⌝ }
 {
     let first = number_at(bytes, 0);
     let Number::Value { value, next } = first else {
         return no_joint(refusal_of(first), bytes.len());
     };
     if is_row_count(value as usize) {
-        return read_others(bytes, value, next);
+        return read_others(bytes, kind, value, next);
     }
     no_joint(3, bytes.len())
 }
 
 // The part of the bytes after their first joint, empty when it can't be read.
-pub fn rest(bytes: &[u8]) -> &[u8]
-    ensures { λ r. ⌜ now r ≡ restOf (now (bytes .entry)) ⌝ }
+pub fn rest(bytes: &[u8], kind: FileKind) -> &[u8]
+    ensures { λ r. ⌜ now r ≡ restOf kind (now (bytes .entry)) ⌝ }
 {
-    let reading = read(bytes);
+    let reading = read(bytes, kind);
     let next = reading.next;
     &bytes[next..]
 }
@@ -103,10 +124,10 @@ pub enum Written {
     Refused(u32),
 }
 
-// No file is longer: field 1 takes one byte, each of the other fields and of the eight levers at most five.
+// No file of the new kind is longer: field 1 takes one byte, each of the other fields and of the eight levers at most five.
 const MOST_FILE: usize = 1 + 5 * (FIELD_COUNT - 1 + 8);
 
-// No file is shorter: a byte for each field and for one lever.
+// No file of the new kind is shorter: a byte for each field and for one lever.
 pub const LEAST_FILE: usize = FIELD_COUNT + 1;
 
 // Whether so many places hold the file. Only a buffer that is shorter than the longest file asks for measuring.
@@ -146,7 +167,7 @@ fn write_rows(fields: [u32; FIELD_COUNT], rows: u32, levers: [u32; 8], buffer: &
     Written::Refused(6)
 }
 
-// Writes a joint's file to the front of the buffer: 3 is tried first.
+// Writes a joint's file, of the new kind, to the front of the buffer: 3 is tried first.
 pub fn write(joint: Joint, buffer: &mut [u8]) -> Written
     ensures { λ r. ⌜ writtenMeaning r (now (buffer .exit)) ≡ writing joint (now (buffer .entry)) ⌝ }
 {

@@ -3,11 +3,15 @@
 use borrow.Author.Needs.{needs}
 use Rattle.compression.specs.Compression.{resistancesOf}
 use Rattle.compression.specs.InRange.{ColumnWebParts}
+use Rattle.compression.proofs.Buckling.{buckling-small}
 use Rattle.compression.proofs.Ranges.{web-parts}
 use Rattle.compression.proofs.resistances_of.Statement.{statement}
 use Rattle.compression.proofs.resistances_of.Tie as tie
 
--- ---- what the web's two checks ask, at the place where b is known
+-- ---- back to the place where b is known, and what the web's two checks ask there
+
+abbrev length-known : tie.After-web-buckling → tie.After-bearing-length
+length-known c = c .before
 
 web-at : (c : tie.After-bearing-length)
     → ColumnWebParts (c .bearing-length .result) (c .before .args .steel .column) (c .before .args .column)
@@ -20,14 +24,19 @@ web-at c =
 bearing-length-requires : tie.Need-bearing-length-requires
 bearing-length-requires c κs = search needs
 
+web-buckling-requires : tie.Need-web-buckling-requires
+web-buckling-requires c κs = web-at c
+
 beam-flange-requires : tie.Need-beam-flange-requires
 beam-flange-requires c κs = search needs
 
 web-bearing-requires : tie.Need-web-bearing-requires
-web-bearing-requires c κs = web-at (c .before)
+web-bearing-requires c κs = web-at (length-known (c .before))
 
-web-buckling-requires : tie.Need-web-buckling-requires
-web-buckling-requires c κs = web-at (c .before .before)
+reduced-near-end-requires : tie.Need-reduced-near-end-requires
+reduced-near-end-requires c κs =
+    let buckling = c .before .before in
+    (rw (buckling .web-buckling .ensures) (buckling-small _ _ _), length-known buckling .before .pre .column)
 
 panel-shear-requires : tie.Need-panel-shear-requires
 panel-shear-requires c κs = search needs
@@ -35,15 +44,17 @@ panel-shear-requires c κs = search needs
 returns : tie.Need-returns
 unfolding resistancesOf
 returns c =
-    let at-buckling = c .before in
-    let at-bearing = at-buckling .before in
-    let at-flange = at-bearing .before in
+    let reduced = c .before in
+    let bearing = reduced .before in
+    let flange = bearing .before in
+    let buckling = flange .before in
     rw (
       c .panel-shear .ensures,
-      at-buckling .web-buckling .ensures,
-      at-bearing .web-bearing .ensures,
-      at-flange .beam-flange .ensures,
-      at-flange .before .bearing-length .ensures,
+      reduced .reduced-near-end .ensures,
+      bearing .web-bearing .ensures,
+      flange .beam-flange .ensures,
+      buckling .web-buckling .ensures,
+      buckling .before .bearing-length .ensures,
     )
 
 pub resistances-of-spec : {M : Type 1} → statement M
@@ -51,8 +62,9 @@ resistances-of-spec =
     tie.close
     (tie.spec
     bearing-length-requires
+    web-buckling-requires
     beam-flange-requires
     web-bearing-requires
-    web-buckling-requires
+    reduced-near-end-requires
     panel-shear-requires
     returns)

@@ -68,7 +68,7 @@ start c = c .before
 abbrev own : tie.At-loop Inv-loop μ-loop → Check
 own c =
     let row = c .loop .row in
-    (30 + row, within (levers (start c .args .rows) row) (getD (start c .args .t2) row 0))
+    (31 + row, within (levers (start c .args .rows) row) (getD (start c .args .t2) row 0))
 
 -- and those of the levers below
 abbrev below : tie.At-loop Inv-loop μ-loop → List Check

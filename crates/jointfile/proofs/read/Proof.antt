@@ -54,7 +54,7 @@ returns c =
     let read = stopped .before .before in
     let refused = stopped .enum-told .given .1 in
     let is = c .before .refusal-of .ensures ∙ ap refusalNumber refused in
-    c .no-joint .ensures ∙ rw is (ap (answer _) (sym (first-refused (rw refused at (read .number-at .ensures)))))
+    c .no-joint .ensures ∙ rw is (ap (answer _) (sym (first-refused _ (rw refused at (read .number-at .ensures)))))
 
 cast-is-row-count : tie.Need-cast-is-row-count
 cast-is-row-count c = search needs
@@ -70,7 +70,7 @@ returns-2 : tie.Need-returns-2
 returns-2 c =
     let tested = c .before in
     let counted = sym (tested .before .is-row-count .ensures) ∙ tested .if1 .taken in
-    c .read-others .ensures ∙ ap (answer _) (sym (rows-taken (first-read (value-of (tested .before))) counted))
+    c .read-others .ensures ∙ ap (answer _) (sym (rows-taken _ (first-read (value-of (tested .before))) counted))
 
 no-joint-requires-2 : tie.Need-no-joint-requires-2
 no-joint-requires-2 c κs = search needs
@@ -79,7 +79,7 @@ returns-3 : tie.Need-returns-3
 returns-3 c =
     let tested = c .before in
     let counted = sym (tested .before .is-row-count .ensures) ∙ tested .if1 .left in
-    c .no-joint2 .ensures ∙ ap (answer _) (sym (rows-refused (first-read (value-of (tested .before))) counted))
+    c .no-joint2 .ensures ∙ ap (answer _) (sym (rows-refused _ (first-read (value-of (tested .before))) counted))
 
 pub read-spec : {M : Type 1} → statement M
 read-spec =

@@ -1,27 +1,31 @@
 -- `read_others` meets its contract: each return is a case of the definition, told by the two runs of numbers.
 -- Assumes nothing.
-use Prim.Native.Nat.{ℕ}
-use mathlib.Core.Path.{_≡_, sym, ap, ap₂, _∙_}
-use mathlib.Core.List.{List, _∷_, append-nil}
+use Prim.Native.Nat.{ℕ, _-_}
+use mathlib.Core.Path.{_≡_, refl, sym, ap, ap₂, _∙_}
+use mathlib.Core.List.{List, _∷_, _++_}
 use native.Mathlib.Omega.{arith}
 use lib.Seq.{length-take-le}
 use lib.ListN.{length, take, drop, replicate}
 use denote.Ref.{now}
-use Rattle.fields.specs.Fields.{jointOf}
+use Rattle.arithmetic.specs.Range.{Within, _to_}
+use Rattle.fields.specs.Fields.{fieldCount, jointOf}
 use Rattle.numbers.specs.Parse.{got}
 use Rattle.numbers.specs.Run.{readNumbers}
 use Rattle.numbers.specs.Answers.{runRefusal, runMeaning, endPlace}
 use Rattle.numbers.specs.declared.run.Run.{Run}
-use Rattle.jointfile.specs.File.{otherFieldCount, answer}
-use Rattle.jointfile.proofs.Answers.{levers-eight, others-refused, levers-refused, levers-got, answer-got}
+use Rattle.jointfile.specs.File.{lacking, otherFieldCount, answer}
+use Rattle.jointfile.proofs.Answers.{stored-count, unread, lent-fields, kept-fields, levers-eight, others-refused, levers-refused, levers-got, answer-got}
 use borrow.Author.Needs.{needs}
 use Rattle.jointfile.proofs.read_others.Statement.{statement}
 use Rattle.jointfile.proofs.read_others.Tie as tie
 
 -- ---- the places: the call's start, the first run, that it was read, and the second run
 
-abbrev start : tie.After-numbers-at → tie.Start
-start c = c .before .before .before
+abbrev start : tie.After-stored-field-count → tie.Start
+start c = c .before .before
+
+abbrev counted : tie.After-numbers-at → tie.After-stored-field-count
+counted c = c .before .before
 
 abbrev first-run : tie.After-others → tie.After-numbers-at
 first-run c = c .before .before .before
@@ -34,17 +38,32 @@ second-run c = c .before
 
 -- where the call of the second run started, and the place after the first
 abbrev start-2 : tie.After-numbers-at2 → tie.Start
-start-2 c = start (first-run (first-read c))
+start-2 c = start (counted (first-run (first-read c)))
 
 abbrev after-others : tie.After-others → ℕ
 after-others c = c .others .given .0 .0
 
 -- ---- what the runs say
 
-others-read : (c : tie.After-others) → let s = start (first-run c) in
+-- the places lent for the fields are as many as a file of this kind has
+stored-known : (c : tie.After-stored-field-count) → Within (1 to fieldCount) (c .stored-field-count .result)
+stored-known c = rw (c .stored-field-count .ensures) (stored-count (start c .args .kind))
+
+-- and those past them are as they were put
+kept : (c : tie.After-stored-field-count) → drop (c .stored-field-count .result - 1) unread ≡ lacking (start c .args .kind)
+kept c = ap (λ (n : ℕ). drop (n - 1) unread) (c .stored-field-count .ensures) ∙ kept-fields (start c .args .kind)
+
+others-run : (c : tie.After-numbers-at) (run : Run) → c .numbers-at .result ≡ run → let s = start (counted c) in
+    runMeaning (now (s .args .bytes)) (c .numbers-at .last .1 .1 .0) run
+    ≡ readNumbers (otherFieldCount (s .args .kind)) (drop (s .args .from) (now (s .args .bytes)))
+others-run c run e =
+    ap (runMeaning _ _) (sym e)
+    ∙ (rw (counted c .stored-field-count .ensures, lent-fields (start (counted c) .args .kind)) at (c .numbers-at .ensures .means))
+
+others-read : (c : tie.After-others) → let s = start (counted (first-run c)) in
     got (first-run c .numbers-at .last .1 .1 .0) (drop (after-others c) (now (s .args .bytes)))
-    ≡ readNumbers otherFieldCount (drop (s .args .from) (now (s .args .bytes)))
-others-read c = ap (runMeaning _ _) (sym (c .others .given .1)) ∙ first-run c .numbers-at .ensures .means
+    ≡ readNumbers (otherFieldCount (s .args .kind)) (drop (s .args .from) (now (s .args .bytes)))
+others-read c = ap (runMeaning _ _) (sym (c .others .given .1)) ∙ others-run (first-run c) _ refl
 
 -- the places lent for the levers are as many as there are rows
 lent : (c : tie.After-numbers-at2) → length {A = ℕ} (take (start-2 c .args .rows) (replicate 8 0)) ≡ start-2 c .args .rows
@@ -60,14 +79,26 @@ levers-run c run e = ap (runMeaning _ _) (sym e) ∙ (rw (lent c) at (c .numbers
 array-write-fields : tie.Need-array-write-fields
 array-write-fields c = search needs
 
+sub-fields : tie.Need-sub-fields
+sub-fields c = search needs
+
+mul-fields : tie.Need-mul-fields
+mul-fields c = search needs
+
+array-write-fields-2 : tie.Need-array-write-fields-2
+array-write-fields-2 c = search needs
+
+stored-field-count-requires : tie.Need-stored-field-count-requires
+stored-field-count-requires c κs = search needs
+
 sub-numbers-at : tie.Need-sub-numbers-at
-sub-numbers-at c = search needs
+sub-numbers-at c = stored-known c .low
 
 part-fields-start : tie.Need-part-fields-start
-part-fields-start c = search needs
+part-fields-start c = stored-known c .low
 
 part-fields-end : tie.Need-part-fields-end
-part-fields-end c = search needs
+part-fields-end c = stored-known c .high
 
 numbers-at-requires : tie.Need-numbers-at-requires
 numbers-at-requires c κs = search needs
@@ -90,7 +121,7 @@ returns c =
     let run = stopped .before .before .before in
     let refused = stopped .enum-told .given .1 in
     let is = c .before .run-refusal .ensures ∙ ap runRefusal refused in
-    c .no-joint .ensures ∙ rw is (ap (answer _) (sym (others-refused _ _ _ ((rw refused at (run .numbers-at .ensures)) .means))))
+    c .no-joint .ensures ∙ rw is (ap (answer _) (sym (others-refused _ _ _ _ (others-run run _ refused))))
 
 array-borrow-prefix-levers : tie.Need-array-borrow-prefix-levers
 array-borrow-prefix-levers c = search needs
@@ -119,7 +150,7 @@ returns-2 c =
     let run = second-run (stopped .before .before) in
     let refused = stopped .enum-told2 .given .1 in
     let is = c .before .run-refusal2 .ensures ∙ ap runRefusal refused in
-    let stops = levers-refused _ _ _ _ (others-read (first-read run)) _ (levers-run run _ refused) in
+    let stops = levers-refused _ _ _ _ _ (others-read (first-read run)) _ (levers-run run _ refused) in
     c .no-joint2 .ensures ∙ rw is (ap (answer _) (sym stops))
 
 joint-of-requires : tie.Need-joint-of-requires
@@ -131,13 +162,13 @@ returns-3 c =
     let run = second-run (last .before .before) in
     let read = first-read run in
     let first = first-run read in
-    let rows = start first .args .rows in
+    let rows = start (counted first) .args .rows in
     let others = first .numbers-at .last .1 .1 .0 in
     let levers = run .numbers-at2 .last .1 .1 .0 in
     let padded = levers-eight rows levers (run .numbers-at2 .kept .1 .1 .0 ∙ lent run) in
-    let joint = c .joint-of .ensures ∙ ap₂ (λ (xs ys : List ℕ). jointOf (rows ∷ xs) ys) (append-nil others) padded in
-    let both = levers-got _ rows _ _ (others-read read) _ _ (levers-run run _ (last .last .given .1)) in
-    let in-first = first .numbers-at .ensures .within (start first .pre .1) in
+    let joint = c .joint-of .ensures ∙ ap₂ (λ (xs ys : List ℕ). jointOf (rows ∷ others ++ xs) ys) (kept (counted first)) padded in
+    let both = levers-got _ _ rows _ _ (others-read read) _ _ (levers-run run _ (last .last .given .1)) in
+    let in-first = first .numbers-at .ensures .within (start (counted first) .pre .1) in
     let in-second = run .numbers-at2 .ensures .within (omega (arith, ap endPlace (read .others .given .1), in-first)) in
     rw joint (sym (ap (answer _) both ∙ answer-got _ _ _ (omega (arith, ap endPlace (last .last .given .1), in-second))))
 
@@ -146,6 +177,10 @@ read-others-spec =
     tie.close
     (tie.spec
     array-write-fields
+    sub-fields
+    mul-fields
+    array-write-fields-2
+    stored-field-count-requires
     sub-numbers-at
     part-fields-start
     part-fields-end

@@ -14,7 +14,7 @@ read-requires : tie.Need-read-requires
 read-requires c κs = search needs
 
 within : (c : tie.After-read) → c .read .result .next ≤ length (now (c .before .before .args .bytes))
-within c = rw (c .read .ensures) (next-within (now (c .before .before .args .bytes)))
+within c = rw (c .read .ensures) (next-within _ (now (c .before .before .args .bytes)))
 
 sub-result : tie.Need-sub-result
 sub-result c = within c
@@ -30,7 +30,7 @@ returns c =
     let bytes = now (c .before .before .before .args .bytes) in
     let next = c .before .read .result .next in
     rw (take-all (length bytes - next) (drop next bytes) (omega (arith, length-drop next bytes)), c .before .read .ensures)
-    (next-left bytes)
+    (next-left _ bytes)
 
 pub rest-spec : {M : Type 1} → statement M
 rest-spec = tie.close (tie.spec read-requires sub-result part-result-start part-result-end returns)
