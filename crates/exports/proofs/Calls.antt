@@ -23,6 +23,8 @@ use Rattle.fields.specs.Fields.{fieldCount, jointOf, fieldsOf}
 use Rattle.jointfile.specs.File.{readJoint, answer, reading, leftOf, restOf}
 use Rattle.jointfile.specs.Write.{fileOf, file, Writing, turnedDown, writing}
 use Rattle.jointfile.specs.Answers.{writtenMeaning}
+use Rattle.jointfile.specs.declared.FileKind.{FileKind}
+use Rattle.jointfile.specs.declared.FileKind.the-variants.{New}
 use Rattle.jointfile.specs.declared.Written.{Written}
 use Rattle.jointfile.specs.declared.Written.the-variants.{Length, Refused}
 use Rattle.jointfile.proofs.Ends.{joint-shorter}
@@ -45,18 +47,18 @@ use Rattle.exports.proofs.Answers.{taken, refused as answer-refused}
 
 -- ---- Rest
 
-pub rest-next : (bytes : List ℕ) → length bytes - length (restOf bytes) ≡ reading bytes .next
-rest-next bytes = go (readJoint bytes)
+pub rest-next : (kind : FileKind) (bytes : List ℕ) → length bytes - length (restOf kind bytes) ≡ reading kind bytes .next
+rest-next kind bytes = go (readJoint kind bytes)
   where
     go : (parse : Parse Joint) → length bytes - length (leftOf parse) ≡ answer (length bytes) parse .next
     go (got joint left) = refl
     go (refused r) = omega arith
 
-pub rest-within : (bytes : List ℕ) → length (restOf bytes) ≤ length bytes
-rest-within bytes = go (readJoint bytes) refl
+pub rest-within : (kind : FileKind) (bytes : List ℕ) → length (restOf kind bytes) ≤ length bytes
+rest-within kind bytes = go (readJoint kind bytes) refl
   where
-    go : (parse : Parse Joint) → readJoint bytes ≡ parse → length (leftOf parse) ≤ length bytes
-    go (got joint left) e = omega (arith, joint-shorter bytes joint left e)
+    go : (parse : Parse Joint) → readJoint kind bytes ≡ parse → length (leftOf parse) ≤ length bytes
+    go (got joint left) e = omega (arith, joint-shorter kind bytes joint left e)
     go (refused r) e = omega arith
 
 -- ---- what comes of checks whose numbers are known to lie in a range
@@ -84,7 +86,7 @@ by-number P low high passed failed ((number, test) ∷ checks) all none some =
 
 -- ---- Write: whatever is refused, the number isn't 0 and the buffer is as it was
 
-some-file : (joint : Joint) → 0 < length (file joint)
+some-file : (joint : Joint) → 0 < length (file New joint)
 unfolding fileOf fieldsOf storedAll
 some-file joint = rw length-append (omega (arith, groups-positive 4 (joint .face .rows)))
 
@@ -133,7 +135,7 @@ levers-within : (n row : ℕ) (levers : List ℕ) → row + length levers ≤ 8 
 unfolding leverChecks allWithin
 levers-within n row [] few = refl
 levers-within n row (h ∷ hs) few =
-    rw (le-leb 1 (30 + row) (omega arith), le-leb (30 + row) jointWordCount (omega arith)) (levers-within n (suc row) hs (omega arith))
+    rw (le-leb 1 (31 + row) (omega arith), le-leb (31 + row) jointWordCount (omega arith)) (levers-within n (suc row) hs (omega arith))
 
 field-small : (joint : Joint) → length (joint .face .levers) ≡ 8
     → fieldOf (fieldCheck (joint .column) (joint .bolts) (joint .face)) ≤ jointWordCount

@@ -1,13 +1,15 @@
 -- Each exported call: which slices are long enough, which refusal is answered, and what is put where. Assumes nothing.
 use Prim.Native.Nat.{ℕ}
 use mathlib.Core.List.{List}
-use mathlib.Core.Bool.{_&&_}
+use mathlib.Core.Bool.{cond, _&&_}
 use lib.Dec.{leb, eqb}
 use lib.ListN.{length, getD, take}
 use Rattle.buffers.specs.Put.{atFront}
 use Rattle.allocation.specs.Allocation.{allocated}
 use Rattle.jointfile.specs.File.{reading}
 use Rattle.jointfile.specs.Write.{Writing, writing}
+use Rattle.jointfile.specs.declared.FileKind.{FileKind}
+use Rattle.jointfile.specs.declared.FileKind.the-variants.{Old, New}
 use Rattle.jointfile.specs.declared.Reading.{Reading}
 use Rattle.strength.specs.Bolt.{boltStrengths}
 use Rattle.work.specs.Work.{worked}
@@ -33,12 +35,16 @@ allocating count limits forces =
     let allocation = allocated count limits in
     answered (leb 8 (length forces)) (allocation .refusal) 0 (atFront (allocation .forces) forces) forces
 
+-- rule 13.3: 1 is the old kind of file, and any other number the new one
+unfoldable pub kindOf : ℕ → FileKind
+kindOf number = cond (eqb number 1) Old New
+
 abbrev pub jointPut : Reading → List ℕ → JointPlace
 jointPut read words = record { words = atFront (wordsOf (read .joint)) words; next = read .next }
 
-abbrev pub readingInto : (bytes words : List ℕ) (next : ℕ) → Answered JointPlace
-readingInto bytes words next =
-    let read = reading bytes in
+abbrev pub readingInto : (bytes : List ℕ) (kind : ℕ) (words : List ℕ) (next : ℕ) → Answered JointPlace
+readingInto bytes kind words next =
+    let read = reading (kindOf kind) bytes in
     answered (leb jointWordCount (length words)) (read .refusal) 0 (jointPut read words) (record { words = words; next = next })
 
 abbrev pub filePut : Writing → BufferFront

@@ -1,5 +1,6 @@
 // The calls as C and Rust see them: over numbers and lent slices. A joint is `JOINT_WORDS` words of 32 bits, its fields in file
-// order and all eight levers; N is its two's complement. A face's result is `RESULT_WORDS` words of 64 bits.
+// order and all eight levers; N is its two's complement. A face's result is `RESULT_WORDS` words of 64 bits. A kind of file is a number: 1
+// is the old one, and any other number the new one.
 //
 // An answer tells all of a refusal in its parts: its number in the lowest 8 bits, and the field, for 10, times 256. 0 is no
 // refusal; 100 says that a lent slice is too short to hold a joint or a result, and 101, of the sheet alone, that the output has no room
@@ -11,11 +12,16 @@ ghost use Rattle.jointfile.specs.File.{reading};
 ghost use Rattle.sharing.specs.Groups.{listed};
 ghost use Rattle.sharing.specs.Best.{Best};
 ghost use Rattle.exports.specs.Answers.{answers};
-ghost use Rattle.exports.specs.Calls.{allocating, readingInto, writingInto, workingInto, Demand3OfWords, sheetingInto};
+ghost use Rattle.exports.specs.Calls.{allocating, kindOf, readingInto, writingInto, workingInto};
+ghost use Rattle.exports.specs.Calls.{Demand3OfWords, sheetingInto};
+use jointfile::FileKind;
 use jointfile::Written;
 use printer::Printed;
 use words::joints::JOINT_WORDS;
 use words::results::RESULT_WORDS;
+
+// The number of the old kind of file.
+const OLD_KIND: u32 = 1;
 
 // A lent slice is too short.
 const SHORT: u32 = 100;
@@ -41,16 +47,32 @@ pub extern "C" fn jinqewan_allocate(count: usize, limits: &[u64], forces: &mut [
     0
 }
 
+// The kind of file that a number says.
+fn kind_of(number: u32) -> FileKind
+    ensures { λ r. ⌜ r ≡ kindOf number ⌝ }
+{
+    if number == OLD_KIND {
+        FileKind::Old
+    } else {
+        FileKind::New
+    }
+}
+
 // Read: the joint's words go to the first places, and the place after it to `next`.
 #[no_mangle]
-pub extern "C" fn jinqewan_read(bytes: &[u8], fields: &mut [u32], next: &mut usize) -> u32
+pub extern "C" fn jinqewan_read(
+    bytes: &[u8],
+    kind: u32,
+    fields: &mut [u32],
+    next: &mut usize,
+) -> u32
     ensures { λ r. ⌜ answers r (record { words = now (fields .exit); next = now (next .exit) })
-        ≡ readingInto (now (bytes .entry)) (now (fields .entry)) (now (next .entry)) ⌝ }
+        ≡ readingInto (now (bytes .entry)) kind (now (fields .entry)) (now (next .entry)) ⌝ }
 {
     if fields.len() < JOINT_WORDS {
         return SHORT;
     }
-    let reading = jointfile::read(bytes);
+    let reading = jointfile::read(bytes, kind_of(kind));
     if reading.refusal != 0 {
         return reading.refusal;
     }
@@ -61,10 +83,10 @@ pub extern "C" fn jinqewan_read(bytes: &[u8], fields: &mut [u32], next: &mut usi
 
 // Rest: the place where the part after the first joint begins, the end when it can't be read.
 #[no_mangle]
-pub extern "C" fn jinqewan_rest(bytes: &[u8]) -> usize
-    ensures { λ r. ⌜ r ≡ reading (now (bytes .entry)) .next ⌝ }
+pub extern "C" fn jinqewan_rest(bytes: &[u8], kind: u32) -> usize
+    ensures { λ r. ⌜ r ≡ reading (kindOf kind) (now (bytes .entry)) .next ⌝ }
 {
-    let left = jointfile::rest(bytes);
+    let left = jointfile::rest(bytes, kind_of(kind));
     bytes.len() - left.len()
 }
 

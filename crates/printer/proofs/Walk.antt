@@ -14,6 +14,7 @@ use Rattle.jointfile.specs.File.{readJoint, answer, reading, leftOf, restOf}
 use Rattle.jointfile.specs.declared.Reading.{Reading}
 use Rattle.jointfile.proofs.Ends.{joint-shorter}
 use Rattle.jointfile.proofs.Places.{next-left, read-taken, read-refused}
+use Rattle.jointfile.specs.declared.FileKind.the-variants.{New}
 use Rattle.line.specs.Line.{refusalLine}
 use Rattle.printer.specs.Sheet.{Line, mostInput, jointLine, lineThen, linesWithin, linesOf, overLong, sheetLines}
 use Rattle.printer.specs.Answers.{readingLine}
@@ -29,14 +30,14 @@ lines-same (suc most) (suc most′) number [] h h′ = refl
 lines-same zero most′ number (byte ∷ bytes) h h′ = absurd (omega arith)
 lines-same (suc most) zero number (byte ∷ bytes) h h′ = absurd (omega arith)
 lines-same (suc most) (suc most′) number (byte ∷ bytes) h h′ =
-    go (lines-same most most′ (number + 1)) (readJoint (byte ∷ bytes)) refl
+    go (lines-same most most′ (number + 1)) (readJoint New (byte ∷ bytes)) refl
   where
     go : ((left : List ℕ) → length left ≤ most → length left ≤ most′
         → linesWithin most (number + 1) left ≡ linesWithin most′ (number + 1) left)
-        → (parse : Parse Joint) → readJoint (byte ∷ bytes) ≡ parse
+        → (parse : Parse Joint) → readJoint New (byte ∷ bytes) ≡ parse
         → lineThen (linesWithin most (number + 1)) number parse ≡ lineThen (linesWithin most′ (number + 1)) number parse
     go same (got joint left) e =
-        let shorter = joint-shorter (byte ∷ bytes) joint left e in
+        let shorter = joint-shorter New (byte ∷ bytes) joint left e in
         rw (same left (omega arith) (omega arith))
     go same (refused r) e = refl
 
@@ -45,10 +46,10 @@ unfolding linesWithin
 lines-none number = refl
 
 pub lines-next : (number : ℕ) (bytes : List ℕ) → 0 < length bytes
-    → linesOf number bytes ≡ readingLine number (reading bytes) ∷ linesOf (number + 1) (drop (reading bytes .next) bytes)
+    → linesOf number bytes ≡ readingLine number (reading New bytes) ∷ linesOf (number + 1) (drop (reading New bytes .next) bytes)
 unfolding linesWithin readingLine
 lines-next number [] some = absurd (omega arith)
-lines-next number (byte ∷ bytes) some = go (eqb (reading input .refusal) 0) refl
+lines-next number (byte ∷ bytes) some = go (eqb (reading New input .refusal) 0) refl
   where
     input : List ℕ
     input = byte ∷ bytes
@@ -56,29 +57,29 @@ lines-next number (byte ∷ bytes) some = go (eqb (reading input .refusal) 0) re
     others : List ℕ → List Line
     others = linesWithin (length bytes) (number + 1)
 
-    go : (t : Bool) → eqb (reading input .refusal) 0 ≡ t
-        → lineThen others number (readJoint input)
-        ≡ readingLine number (reading input) ∷ linesOf (number + 1) (drop (reading input .next) input)
+    go : (t : Bool) → eqb (reading New input .refusal) 0 ≡ t
+        → lineThen others number (readJoint New input)
+        ≡ readingLine number (reading New input) ∷ linesOf (number + 1) (drop (reading New input .next) input)
     go true e =
-        let taken = read-taken input (eqb-true (reading input .refusal) 0 e) in
-        let joint = reading input .joint in
-        let left = restOf input in
-        let shorter = joint-shorter input joint left taken in
+        let taken = read-taken New input (eqb-true (reading New input .refusal) 0 e) in
+        let joint = reading New input .joint in
+        let left = restOf New input in
+        let shorter = joint-shorter New input joint left taken in
         ap (lineThen others number) taken
-        ∙ rw (next-left input, e)
+        ∙ rw (next-left New input, e)
         (ap (λ (lines : List Line). jointLine number joint ∷ lines)
         (lines-same (length bytes) (length left) (number + 1) left (omega arith) (omega arith)))
     go false e =
-        let turned = read-refused input (eqb-false (reading input .refusal) 0 e) in
-        let none : drop (reading input .next) input ≡ [] = next-left input ∙ ap leftOf turned in
+        let turned = read-refused New input (eqb-false (reading New input .refusal) 0 e) in
+        let none : drop (reading New input .next) input ≡ [] = next-left New input ∙ ap leftOf turned in
         ap (lineThen others number) turned ∙ rw (none, e)
 
 -- a place after what was read
-pub next-positive : (bytes : List ℕ) → 0 < length bytes → 0 < reading bytes .next
-next-positive bytes some = go (readJoint bytes) refl
+pub next-positive : (bytes : List ℕ) → 0 < length bytes → 0 < reading New bytes .next
+next-positive bytes some = go (readJoint New bytes) refl
   where
-    go : (parse : Parse Joint) → readJoint bytes ≡ parse → 0 < answer (length bytes) parse .next
-    go (got joint left) e = let shorter = joint-shorter bytes joint left e in omega arith
+    go : (parse : Parse Joint) → readJoint New bytes ≡ parse → 0 < answer (length bytes) parse .next
+    go (got joint left) e = let shorter = joint-shorter New bytes joint left e in omega arith
     go (refused r) e = some
 
 -- ---- the line of what was read, case by case

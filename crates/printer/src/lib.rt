@@ -1,6 +1,7 @@
 // The sheet (rules 12): joint files end to end in, a line for each out. Each joint is read once, worked once and put
 // straight into the caller's buffer; the input is walked by the place after each joint. Only where the output may be too short are the
 // lines measured first, since such an output stays as it was.
+use jointfile::FileKind;
 use jointfile::LEAST_FILE;
 use jointfile::Reading;
 use jointfile::read;
@@ -98,7 +99,7 @@ fn lines_size(input: &[u8]) -> usize
     let mut number = FIRST;
     let mut size: usize = 0;
     while from < input.len() {
-        let reading = read(&input[from..]);
+        let reading = read(&input[from..], FileKind::New);
         size += line_size(number, reading);
         from += reading.next;
         number += 1;
@@ -115,7 +116,7 @@ fn put_joints(input: &[u8], output: &mut [u8]) -> usize
     let mut number = FIRST;
     let mut at = 0;
     while from < input.len() {
-        let reading = read(&input[from..]);
+        let reading = read(&input[from..], FileKind::New);
         at = put_line(output, at, number, reading);
         from += reading.next;
         number += 1;
