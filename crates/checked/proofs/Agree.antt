@@ -20,7 +20,8 @@ use Rattle.strength.specs.Thickness.{thicknessLimit, tooThick, bothTooThick}
 use Rattle.stubs.specs.Bending.{bending}
 use Rattle.stubs.specs.Web.{webTension}
 use Rattle.tension.specs.Limits.{columnFlangeBending, endPlateBending, endPlateLimits, columnWebTension, beamWebLimits, groupLimit}
-use Rattle.compression.specs.Compression.{bearingLength, beamFlange, webBearing, bucklingLimit, webBuckling, panelShear, resistancesOf}
+use Rattle.compression.specs.Compression.{bearingLength, beamFlange, webBearing, bucklingLimit, webBuckling, reducedNearEnd}
+use Rattle.compression.specs.Compression.{panelShear, resistancesOf}
 use Rattle.governing.specs.Governing.{lesser, governingCheck}
 use Rattle.governing.specs.Cap.{tensionCap, overCompressed}
 use Rattle.verdicts.specs.Bending.{carries}
@@ -43,7 +44,8 @@ unfolding table firstFailing search-from leverChecks fixedChecks fieldChecks fie
     steelStrength steelBearing weldStrength boltArea boltTension boltShear boltBearing boltUltimate pairTension pairShear
     thicknessLimit tooThick bothTooThick bending webTension
     columnFlangeBending endPlateBending endPlateLimits columnWebTension beamWebLimits groupLimit
-    bearingLength beamFlange webBearing bucklingLimit webBuckling panelShear resistancesOf lesser governingCheck tensionCap overCompressed
+    bearingLength beamFlange webBearing bucklingLimit webBuckling reducedNearEnd panelShear resistancesOf
+    lesser governingCheck tensionCap overCompressed
     carries bearing idlePair pullingPair boltTotal boltsPass topRows flangeWeldBy webWeldPasses leversFall rowsInPlace tooTight
     governingOf capOf forcesOf refusalsAfter10 resultOf workedFace worked
     digits spaced resultLine outcomeLine linesWithin sheetLines concatenated

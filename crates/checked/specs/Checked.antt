@@ -12,6 +12,8 @@ use Rattle.numbers.specs.Parse.{Parse, got, refused}
 use Rattle.numbers.specs.Number.{stored, readNumber}
 use Rattle.jointfile.specs.File.{reading}
 use Rattle.jointfile.specs.Write.{file}
+use Rattle.jointfile.specs.declared.FileKind.{FileKind}
+use Rattle.jointfile.specs.declared.FileKind.the-variants.{Old, New}
 use Rattle.sharing.specs.Sharing.{moment}
 use Rattle.allocation.specs.Allocation.{allocated}
 use Rattle.strength.specs.Steel.{steelStrength}
@@ -20,7 +22,7 @@ use Rattle.strength.specs.Thickness.{bothTooThick}
 use Rattle.strength.specs.declared.SteelStrengths.{SteelStrengths}
 use Rattle.stubs.specs.Bending.{effectiveEdge, effectiveLength, bending}
 use Rattle.stubs.specs.Web.{webTension}
-use Rattle.compression.specs.Compression.{webBuckling}
+use Rattle.compression.specs.Compression.{webBuckling, reducedNearEnd}
 use Rattle.work.specs.Work.{worked}
 use Rattle.printer.specs.Sheet.{sheetOf}
 
@@ -79,17 +81,25 @@ checked-D = record {
 checked-E : Checked
 checked-E = record { given = webTension 1000 0 130 265 ∷ []; stated = 595985 ∷ [] }
 
--- F: web buckling with b 1973; the column's other fields don't count
-column-F : Column
-column-F = record { grade = 275; depth = 0; width = 0; flange = 0; web = 96; radius = 0; clear = 4765 }
+-- F: web buckling with b 1973 and z; the column's other fields don't count
+column-F : (z : ℕ) → Column
+column-F z = record { grade = 275; depth = 0; width = 0; flange = 0; web = 96; radius = 0; clear = 4765; «end_distance» = z }
 
-checked-F : Checked
+buckling-F : (z : ℕ) → ℕ
 unfolding column-F
-checked-F = record { given = webBuckling 1973 275 column-F ∷ []; stated = 407706 ∷ [] }
+buckling-F z = reducedNearEnd (webBuckling 1973 275 (column-F z)) (column-F z)
+
+-- at the greatest z, on both sides of 0.7×dc = 3335.5, and at the least z
+checked-F : Checked
+unfolding buckling-F
+checked-F = record {
+  given = buckling-F 15000 ∷ buckling-F 3336 ∷ buckling-F 3335 ∷ buckling-F 1 ∷ [];
+  stated = 407706 ∷ 407706 ∷ 407675 ∷ 203914 ∷ [];
+}
 
 -- G: 1 where a column flange of that thickness, and a plate of that thickness, are both too thick for bolts of class 88, M24
 column-G : (Tc : ℕ) → Column
-column-G Tc = record { grade = 275; depth = 0; width = 0; flange = Tc; web = 0; radius = 0; clear = 0 }
+column-G Tc = record { grade = 275; depth = 0; width = 0; flange = Tc; web = 0; radius = 0; clear = 0; «end_distance» = 0 }
 
 plate-G : (tp : ℕ) → Plate
 plate-G tp = record { grade = 275; width = 0; thickness = tp }
@@ -125,7 +135,16 @@ checked-H = record {
 -- I: the joint with an axial force N
 joint-I : ℤ → Joint
 joint-I axial = record {
-  column = record { grade = 275; depth = 5283; width = 2087; flange = 132; web = 96; radius = 127; clear = 4765 };
+  column = record {
+    grade = 275;
+    depth = 5283;
+    width = 2087;
+    flange = 132;
+    web = 96;
+    radius = 127;
+    clear = 4765;
+    «end_distance» = 15000;
+  };
   bolts = record { class = 88; diameter = 20 };
   face = record {
     rows = 1;
@@ -140,15 +159,15 @@ joint-I axial = record {
   };
 }
 
--- I's file
-file-I : List ℕ
-file-I = file (joint-I (pos 0))
+-- I's file of either kind
+file-I : FileKind → List ℕ
+file-I kind = file kind (joint-I (pos 0))
 
 -- what the sheet program prints of it, in ASCII: `1 1 219345 219345 52642 407706 K P P P P` and a line feed
 checked-I : Checked
 unfolding joint-I file-I
 checked-I = record {
-  given = sheetOf file-I;
+  given = sheetOf (file-I New);
   stated = 49 ∷ 32 ∷ 49 ∷ 32 ∷ 50 ∷ 49 ∷ 57 ∷ 51 ∷ 52 ∷ 53 ∷ 32 ∷ 50 ∷ 49 ∷ 57 ∷ 51 ∷ 52 ∷ 53 ∷ 32 ∷ 53 ∷ 50 ∷ 54 ∷ 52 ∷ 50
       ∷ 32 ∷ 52 ∷ 48 ∷ 55 ∷ 55 ∷ 48 ∷ 54 ∷ 32 ∷ 75 ∷ 32 ∷ 80 ∷ 32 ∷ 80 ∷ 32 ∷ 80 ∷ 32 ∷ 80 ∷ 10 ∷ [];
 }
@@ -161,15 +180,20 @@ checked-I-pushed : Checked
 unfolding joint-I pushed
 checked-I-pushed = record { given = pushed (pos 407706) ++ pushed (pos 407707); stated = 0 ∷ 0 ∷ 15 ∷ 0 ∷ [] }
 
--- I's file, read to the joint and written to the same bytes
-checked-I-file : Checked
+-- I's file, read as its kind to the joint: the refusal, the place after it, and the new file of that joint
+read-I : FileKind → List ℕ
 unfolding joint-I file-I
-checked-I-file = record {
-  given = reading file-I .refusal ∷ reading file-I .next ∷ file (reading file-I .joint);
-  stated = 0 ∷ 49 ∷ 1 ∷ 0 ∷ 88 ∷ 20 ∷ 0x93 ∷ 2 ∷ 0x93 ∷ 2 ∷ 0x93 ∷ 2 ∷ 0xA3 ∷ 0x29 ∷ 0xA7 ∷ 0x10 ∷ 0x84 ∷ 1 ∷ 96 ∷ 127
+read-I kind = let read = reading kind (file-I kind) in read .refusal ∷ read .next ∷ file New (read .joint)
+
+bytes-I : List ℕ
+bytes-I =
+    1 ∷ 0 ∷ 88 ∷ 20 ∷ 0x93 ∷ 2 ∷ 0x93 ∷ 2 ∷ 0x93 ∷ 2 ∷ 0xA3 ∷ 0x29 ∷ 0xA7 ∷ 0x10 ∷ 0x84 ∷ 1 ∷ 96 ∷ 127
       ∷ 0x9D ∷ 0x25 ∷ 0xFF ∷ 0x17 ∷ 0xF9 ∷ 0x0C ∷ 118 ∷ 67 ∷ 0xD0 ∷ 0x0F ∷ 0xC8 ∷ 1 ∷ 0x84 ∷ 7 ∷ 0 ∷ 0xD8 ∷ 4 ∷ 80 ∷ 60
-      ∷ 0xD0 ∷ 0x0F ∷ 1 ∷ 0 ∷ 0xA8 ∷ 0xBD ∷ 3 ∷ 0xD0 ∷ 0x86 ∷ 3 ∷ 0xE0 ∷ 0x12 ∷ [];
-}
+      ∷ 0xD0 ∷ 0x0F ∷ 1 ∷ 0 ∷ 0xA8 ∷ 0xBD ∷ 3 ∷ 0xD0 ∷ 0x86 ∷ 3 ∷ 0x98 ∷ 0x75 ∷ 0xE0 ∷ 0x12 ∷ []
+
+checked-I-file : Checked
+unfolding read-I bytes-I
+checked-I-file = record { given = read-I New ++ read-I Old; stated = (0 ∷ 51 ∷ bytes-I) ++ (0 ∷ 49 ∷ bytes-I) }
 
 unfoldable pub table : List Checked
 unfolding checked-A checked-B checked-C checked-D checked-E checked-F checked-G checked-H checked-I checked-I-pushed checked-I-file

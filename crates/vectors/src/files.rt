@@ -1,4 +1,5 @@
-// Joint files on a line: `read BYTES = refusal next J` and `write J size = refusal length BYTES`.
+// Joint files on a line: `read BYTES = refusal next J`, the same with `old` for a file of the old kind, and
+// `write J size = refusal length BYTES`.
 use crate::compare::Comparison;
 use crate::compare::compare;
 use crate::compare::compare_bytes;
@@ -9,6 +10,7 @@ use crate::reader::fill;
 use crate::reader::fill_bytes;
 use crate::reader::is_end;
 use crate::reader::put_words;
+use jointfile::FileKind;
 use jointfile::Written;
 use words::joints::JOINT_WORDS;
 use words::joints::joint_of;
@@ -36,8 +38,8 @@ fn read_numbers(refusal: u32, next: usize, words: [u32; JOINT_WORDS]) -> [u64; R
 }
 
 // Reads the joint, and the part after it.
-fn compare_reading(file: &[u8], should: &[u64]) -> Comparison {
-    let reading = jointfile::read(file);
+fn compare_reading(file: &[u8], kind: FileKind, should: &[u64]) -> Comparison {
+    let reading = jointfile::read(file, kind);
     let next = reading.next;
     if file.len() < next {
         return Comparison::BytesDiffer;
@@ -46,10 +48,10 @@ fn compare_reading(file: &[u8], should: &[u64]) -> Comparison {
     put_joint(reading.joint, &mut words);
     let are = read_numbers(reading.refusal, next, words);
     let numbers = compare(&are, should);
-    compare_bytes(numbers, jointfile::rest(file), &file[next..])
+    compare_bytes(numbers, jointfile::rest(file, kind), &file[next..])
 }
 
-pub fn run_read(line: &[u8], place: Place) -> Comparison {
+pub fn run_read(line: &[u8], kind: FileKind, place: Place) -> Comparison {
     let mut bytes = [0u8; 512];
     let Bytes::Read { count, next } = fill_bytes(line, place, &mut bytes) else {
         return Comparison::Unreadable;
@@ -62,7 +64,7 @@ pub fn run_read(line: &[u8], place: Place) -> Comparison {
     if MOST_BYTES < count {
         return Comparison::Unreadable;
     }
-    compare_reading(&bytes[..count], &should)
+    compare_reading(&bytes[..count], kind, &should)
 }
 
 // The refusal and the length.

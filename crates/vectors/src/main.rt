@@ -3,6 +3,7 @@
 // or an output that fails is said on standard error.
 use compare::Comparison;
 use input::was_read_whole;
+use jointfile::FileKind;
 use libc::STDERR_FILENO;
 use libc::STDIN_FILENO;
 use progress::Progress;
@@ -41,7 +42,8 @@ fn run_line(first: u8, line: &[u8]) -> Comparison {
         b'a' => limits::run(line, after_word(line, b"allocate")),
         b'c' => printed::run_cell(line, after_word(line, b"cell"), true),
         b'e' => printed::run_cell(line, after_word(line, b"exception"), false),
-        b'r' => files::run_read(line, after_word(line, b"read")),
+        b'o' => files::run_read(line, FileKind::Old, after_word(line, b"old")),
+        b'r' => files::run_read(line, FileKind::New, after_word(line, b"read")),
         b's' => printed::run_shear(line, after_word(line, b"shear")),
         _ => {
             if let Place::At(at) = after_word(line, b"write") {
