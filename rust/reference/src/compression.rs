@@ -16,7 +16,8 @@ pub fn governing(column: &Column, face: &Face, steel: &SteelStrengths) -> (Check
     let web = u64::from(column.web);
     let flange = 7 * steel.beam * u64::from(beam.flange) * u64::from(beam.width) / 500;
     let bearing = bearing_length * web * steel.column / 100;
-    let buckling = web_buckling(bearing_length, column.clear, column.web, steel.column);
+    let far = web_buckling(bearing_length, column.clear, column.web, steel.column);
+    let buckling = lowered_near_end(far, column.end_distance, column.clear);
     let panel = 3 * steel.column * web * u64::from(column.depth) / 500;
 
     let mut least = (Check::Flange, flange);
@@ -32,10 +33,21 @@ pub fn governing(column: &Column, face: &Face, steel: &SteelStrengths) -> (Check
     least
 }
 
-/// The greatest w with 16 dc w² at most 275 b yc tc⁴.
+/// The greatest w with 16 dc w² at most 275 b yc tc⁴, where no column end is near.
 fn web_buckling(bearing_length: u64, clear: u32, web: u32, strength: u64) -> u64 {
     let most = 275 * bearing_length * strength * square(web) * square(web);
     (most / (16 * u64::from(clear))).isqrt()
+}
+
+/// w, or w (10z + 7dc) ÷ (14dc) where z is below 0.7dc.
+fn lowered_near_end(buckling: u64, end_distance: u32, clear: u32) -> u64 {
+    let end = 10 * u64::from(end_distance);
+    let reach = 7 * u64::from(clear);
+    if end < reach {
+        buckling * (end + reach) / (2 * reach)
+    } else {
+        buckling
+    }
 }
 
 #[cfg(test)]
@@ -45,6 +57,25 @@ mod tests {
     #[test]
     fn buckling_of_checked_joint_f() {
         assert_eq!(web_buckling(1973, 4765, 96, 275), 407_706);
+    }
+
+    #[test]
+    fn checked_joint_f_near_the_column_end() {
+        let lowered = |end_distance| lowered_near_end(407_706, end_distance, 4765);
+        assert_eq!(lowered(15000), 407_706);
+        assert_eq!(lowered(3336), 407_706);
+        assert_eq!(lowered(3335), 407_675);
+        // 407706 × 33365 ÷ 66710 = 203914.11..
+        assert_eq!(lowered(1), 203_914);
+    }
+
+    /// 0.7dc is 3500, 3500.7 and 3506.3 here: rounded down or to the nearest it would be a tenth off.
+    #[test]
+    fn the_edge_is_not_rounded() {
+        for (clear, least_far) in [(5000, 3500), (5001, 3501), (5009, 3507)] {
+            assert_eq!(lowered_near_end(700_000, least_far, clear), 700_000);
+            assert!(lowered_near_end(700_000, least_far - 1, clear) < 700_000);
+        }
     }
 
     #[test]

@@ -3,10 +3,31 @@
 use crate::joint::{Joint, FIELDS, HEAD, ROWS};
 
 /// A file of eight rows whose numbers but the row count take five bytes each.
-pub const LONGEST_FILE: usize = 1 + 36 * 5;
+pub const LONGEST_FILE: usize = 1 + 37 * 5;
 
 /// Where the axial force stands.
 const AXIAL: usize = 26;
+/// Where the distance to the column end stands: last before the levers.
+const END_DISTANCE: usize = HEAD - 1;
+/// What a file of the old kind gives for that distance.
+const FAR_FROM_THE_END: u32 = 15000;
+
+#[derive(Clone, Copy, Debug, PartialEq, Eq)]
+pub enum FileKind {
+    /// without the distance to the column end
+    Old,
+    New,
+}
+
+impl FileKind {
+    /// How many fields before the levers the file has.
+    fn head(self) -> usize {
+        match self {
+            FileKind::Old => END_DISTANCE,
+            FileKind::New => HEAD,
+        }
+    }
+}
 
 #[derive(Clone, Copy, Debug, PartialEq, Eq)]
 pub enum ReadRefusal {
@@ -23,29 +44,34 @@ pub enum WriteRefusal {
 }
 
 /// The joint that the bytes begin with, and the bytes after it.
-pub fn read(bytes: &[u8]) -> Result<(Joint, &[u8]), ReadRefusal> {
+pub fn read(bytes: &[u8], kind: FileKind) -> Result<(Joint, &[u8]), ReadRefusal> {
     let mut fields = [0; FIELDS];
     let (rows, mut rest) = read_number(bytes)?;
     if !(1..=ROWS as u32).contains(&rows) {
         return Err(ReadRefusal::RowCount);
     }
     fields[0] = rows;
-    for field in &mut fields[1..HEAD + rows as usize] {
+    for field in &mut fields[1..kind.head() + rows as usize] {
         (*field, rest) = read_number(rest)?;
+    }
+    if kind == FileKind::Old {
+        // the levers stand one place early
+        fields[END_DISTANCE..].rotate_right(1);
+        fields[END_DISTANCE] = FAR_FROM_THE_END;
     }
     fields[AXIAL] = signed(fields[AXIAL]) as u32;
     Ok((Joint::from_fields(&fields), rest))
 }
 
 /// The bytes after the first joint; none when it can't be read.
-pub fn rest(bytes: &[u8]) -> &[u8] {
-    match read(bytes) {
+pub fn rest(bytes: &[u8], kind: FileKind) -> &[u8] {
+    match read(bytes, kind) {
         Ok((_, rest)) => rest,
         Err(_) => &[],
     }
 }
 
-/// Puts the joint's file at the front of the buffer and answers its length.
+/// Puts the joint's file, of the new kind, at the front of the buffer and answers its length.
 pub fn write(joint: &Joint, buffer: &mut [u8]) -> Result<usize, WriteRefusal> {
     let face = &joint.face;
     let rows = face.row_count();

@@ -4,7 +4,7 @@
 /// Most bolt rows of a face.
 pub const ROWS: usize = 8;
 /// Fields of a joint, spare levers included.
-pub const FIELDS: usize = 37;
+pub const FIELDS: usize = 38;
 /// The fields before the levers.
 pub const HEAD: usize = FIELDS - ROWS;
 
@@ -16,7 +16,7 @@ pub struct Joint {
     pub face: Face,
 }
 
-/// Fields 5 and 8 to 13.
+/// Fields 5, 8 to 13 and 30.
 #[derive(Clone, Copy, Debug, Default, PartialEq, Eq)]
 pub struct Column {
     pub grade: u32,
@@ -28,6 +28,8 @@ pub struct Column {
     pub radius: u32,
     /// between the fillets
     pub clear: u32,
+    /// from the compression force to the nearer end
+    pub end_distance: u32,
 }
 
 /// Fields 3 and 4.
@@ -114,6 +116,7 @@ impl Joint {
                 web: field(11),
                 radius: field(12),
                 clear: field(13),
+                end_distance: field(30),
             },
             bolts: Bolts {
                 class: field(3),
@@ -168,6 +171,7 @@ impl Joint {
             face.loads.axial as u32,
             face.loads.shear,
             face.loads.moment,
+            column.end_distance,
         ]
     }
 }

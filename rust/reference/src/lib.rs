@@ -13,7 +13,7 @@ mod tension;
 mod verdict;
 mod work;
 
-pub use file::{read, rest, write, ReadRefusal, WriteRefusal, LONGEST_FILE};
+pub use file::{read, rest, write, FileKind, ReadRefusal, WriteRefusal, LONGEST_FILE};
 pub use joint::{Beam, Bolts, Column, Face, Joint, Layout, Loads, Plate, Welds, FIELDS, ROWS};
 pub use outcome::{Check, FaceResult, Verdicts, WorkRefusal};
 pub use sharing::{allocate, AllocateRefusal, GROUPS};

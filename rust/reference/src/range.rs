@@ -60,6 +60,7 @@ fn fields_hold(column: &Column, bolts: &Bolts, face: &Face) -> [bool; HEAD] {
         (-FORCE..=FORCE).contains(&face.loads.axial),
         within(LOAD, face.loads.shear),
         within(LOAD, face.loads.moment),
+        within(1..=15000, column.end_distance),
     ]
 }
 

@@ -1,6 +1,6 @@
-//! The sheet: joint files end to end in, a line for each out.
+//! The sheet: joint files of the new kind end to end in, a line for each out.
 
-use crate::file::read;
+use crate::file::{read, FileKind};
 use crate::joint::Face;
 use crate::outcome::{FaceResult, WorkRefusal};
 use crate::work::work;
@@ -18,7 +18,7 @@ pub fn sheet(input: &[u8], out: &mut Vec<u8>) {
     let mut number = 0;
     while !rest.is_empty() {
         number += 1;
-        match read(rest) {
+        match read(rest, FileKind::New) {
             Err(refusal) => {
                 refusal_line(number, refusal as u32, 0, out);
                 return;

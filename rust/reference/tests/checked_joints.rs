@@ -1,7 +1,8 @@
 //! The checked joints A to C, H and I of document 01; D to G stand beside the functions they check.
 
 use reference::{
-    allocate, read, sheet, work, write, Check, Joint, ReadRefusal, WorkRefusal, LONGEST_FILE,
+    allocate, read, sheet, work, write, Check, FileKind, Joint, ReadRefusal, WorkRefusal,
+    LONGEST_FILE,
 };
 
 fn forces(limits: &[u64], rows: usize) -> Vec<u64> {
@@ -10,10 +11,10 @@ fn forces(limits: &[u64], rows: usize) -> Vec<u64> {
 
 /// The fields of document 01's joint I, with spare levers.
 fn joint_i() -> Joint {
-    let mut fields = [0; 37];
-    fields[..30].copy_from_slice(&[
+    let mut fields = [0; 38];
+    fields[..31].copy_from_slice(&[
         1, 0, 88, 20, 275, 275, 275, 5283, 2087, 132, 96, 127, 4765, 3071, 1657, 118, 67, 2000,
-        200, 900, 0, 600, 80, 60, 2000, 1, 0, 57000, 50000, 2400,
+        200, 900, 0, 600, 80, 60, 2000, 1, 0, 57000, 50000, 15000, 2400,
     ]);
     Joint::from_fields(&fields)
 }
@@ -66,12 +67,12 @@ fn joint_h() {
     let file = file_of(&joint_i());
     // field 2 takes the bytes after the row count
     let with_field_2 = |bytes: &[u8]| [&file[..1], bytes, &file[2..]].concat();
-    let (joint, rest) = read(&with_field_2(&[0xac, 0x02]))
+    let (joint, rest) = read(&with_field_2(&[0xac, 0x02]), FileKind::New)
         .map(|(joint, rest)| (joint, rest.len()))
         .unwrap();
     assert_eq!((joint.face.extended, rest), (300, 0));
     assert_eq!(
-        read(&with_field_2(&[0xac, 0x82, 0x00])),
+        read(&with_field_2(&[0xac, 0x82, 0x00]), FileKind::New),
         Err(ReadRefusal::NumberForm)
     );
 }
@@ -108,4 +109,24 @@ fn joint_i_at_its_governing_force() {
     );
     joint.face.loads.axial = 407_707;
     assert_eq!(work(&joint), Err(WorkRefusal::Compression));
+}
+
+/// Joint I has the web of joint F; it is governed by web buckling at any distance from the column end.
+#[test]
+fn joint_i_near_the_column_end() {
+    let governing = |end_distance| {
+        let mut joint = joint_i();
+        joint.column.end_distance = end_distance;
+        let result = work(&joint).unwrap();
+        assert_eq!(result.check, Check::Buckling);
+        result.governing_force
+    };
+    for (end_distance, force) in [
+        (15000, 407_706),
+        (3336, 407_706),
+        (3335, 407_675),
+        (1, 203_914),
+    ] {
+        assert_eq!(governing(end_distance), force);
+    }
 }

@@ -1,18 +1,20 @@
 //! Every refusal, at both ends of its condition.
 
 use reference::{
-    allocate, read, rest, sheet, work, write, AllocateRefusal, Face, Joint, ReadRefusal,
+    allocate, read, rest, sheet, work, write, AllocateRefusal, Face, FileKind, Joint, ReadRefusal,
     WorkRefusal, WriteRefusal, LONGEST_FILE,
 };
 
-const JOINT_I: [u32; 30] = [
+const KINDS: [FileKind; 2] = [FileKind::Old, FileKind::New];
+
+const JOINT_I: [u32; 31] = [
     1, 0, 88, 20, 275, 275, 275, 5283, 2087, 132, 96, 127, 4765, 3071, 1657, 118, 67, 2000, 200,
-    900, 0, 600, 80, 60, 2000, 1, 0, 57000, 50000, 2400,
+    900, 0, 600, 80, 60, 2000, 1, 0, 57000, 50000, 15000, 2400,
 ];
 
-fn fields() -> [u32; 37] {
-    let mut fields = [0; 37];
-    fields[..30].copy_from_slice(&JOINT_I);
+fn fields() -> [u32; 38] {
+    let mut fields = [0; 38];
+    fields[..31].copy_from_slice(&JOINT_I);
     fields
 }
 
@@ -60,51 +62,97 @@ fn lines(input: &[u8]) -> String {
     String::from_utf8(out).unwrap()
 }
 
+/// The file of the kind; joint I's new one has its z of two bytes before the last two.
+fn file_of_kind(kind: FileKind) -> Vec<u8> {
+    let mut file = file_of(&joint());
+    if kind == FileKind::Old {
+        let lever = file.len() - 2;
+        file.drain(lever - 2..lever);
+    }
+    file
+}
+
 #[test]
 fn read_1_the_bytes_end() {
-    assert_eq!(read(&[]), Err(ReadRefusal::BytesEnd));
-    assert_eq!(read(&[0x88]), Err(ReadRefusal::BytesEnd));
-    assert_eq!(read(&[0x80; 4]), Err(ReadRefusal::BytesEnd));
-    let file = file_of(&joint());
-    for cut in 0..file.len() {
-        assert_eq!(read(&file[..cut]), Err(ReadRefusal::BytesEnd));
+    for kind in KINDS {
+        assert_eq!(read(&[], kind), Err(ReadRefusal::BytesEnd));
+        assert_eq!(read(&[0x88], kind), Err(ReadRefusal::BytesEnd));
+        assert_eq!(read(&[0x80; 4], kind), Err(ReadRefusal::BytesEnd));
+        let file = file_of_kind(kind);
+        for cut in 0..file.len() {
+            assert_eq!(read(&file[..cut], kind), Err(ReadRefusal::BytesEnd));
+        }
     }
 }
 
 #[test]
 fn read_2_the_form() {
-    for bytes in [
-        &[0x88, 0x00][..],
-        &[0x80; 5],
-        &[0x80, 0x80, 0x80, 0x80, 0x00],
-        &[0xff, 0xff, 0xff, 0xff, 0x10],
-    ] {
-        assert_eq!(read(bytes), Err(ReadRefusal::NumberForm));
+    for kind in KINDS {
+        for bytes in [
+            &[0x88, 0x00][..],
+            &[0x80; 5],
+            &[0x80, 0x80, 0x80, 0x80, 0x00],
+            &[0xff, 0xff, 0xff, 0xff, 0x10],
+        ] {
+            assert_eq!(read(bytes, kind), Err(ReadRefusal::NumberForm));
+        }
+        let file = file_of_kind(kind);
+        let greatest = [&file[..1], &[0xff, 0xff, 0xff, 0xff, 0x0f], &file[2..]].concat();
+        assert_eq!(read(&greatest, kind).unwrap().0.face.extended, u32::MAX);
     }
-    let file = file_of(&joint());
-    let greatest = [&file[..1], &[0xff, 0xff, 0xff, 0xff, 0x0f], &file[2..]].concat();
-    assert_eq!(read(&greatest).unwrap().0.face.extended, u32::MAX);
 }
 
 #[test]
 fn read_3_the_row_count() {
-    for bytes in [
-        &[0][..],
-        &[9],
-        &[0xac, 0x02],
-        &[0xff, 0xff, 0xff, 0xff, 0x0f],
-    ] {
-        assert_eq!(read(bytes), Err(ReadRefusal::RowCount));
+    for kind in KINDS {
+        for bytes in [
+            &[0][..],
+            &[9],
+            &[0xac, 0x02],
+            &[0xff, 0xff, 0xff, 0xff, 0x0f],
+        ] {
+            assert_eq!(read(bytes, kind), Err(ReadRefusal::RowCount));
+        }
+    }
+}
+
+#[test]
+fn both_kinds_give_joint_i() {
+    for (kind, length) in KINDS.into_iter().zip([49, 51]) {
+        let file = file_of_kind(kind);
+        assert_eq!(file.len(), length);
+        assert_eq!(read(&file, kind), Ok((joint(), &[][..])));
+    }
+    // z is taken for the lever, and the lever is left
+    let file = file_of_kind(FileKind::New);
+    let (misread, rest) = read(&file, FileKind::Old).unwrap();
+    assert_eq!(misread.face.levers[0], 15000);
+    assert_eq!(rest, [0xe0, 0x12]);
+    assert_eq!(
+        read(&file_of_kind(FileKind::Old), FileKind::New),
+        Err(ReadRefusal::BytesEnd)
+    );
+}
+
+/// Read looks at no range, and the old kind at no z.
+#[test]
+fn any_distance_to_the_column_end_is_read() {
+    for end_distance in [0, 1, 15000, 15001, u32::MAX] {
+        let joint = with_field(30, end_distance);
+        let file = file_of(&joint);
+        assert_eq!(read(&file, FileKind::New).unwrap().0, joint);
     }
 }
 
 #[test]
 fn rest_is_what_follows() {
-    let file = file_of(&joint());
-    let two = [&file[..], &[1, 2, 3]].concat();
-    assert_eq!(rest(&two), [1, 2, 3]);
-    assert!(rest(&file).is_empty());
-    assert!(rest(&file[1..]).is_empty());
+    for kind in KINDS {
+        let file = file_of_kind(kind);
+        let two = [&file[..], &[1, 2, 3]].concat();
+        assert_eq!(rest(&two, kind), [1, 2, 3]);
+        assert!(rest(&file, kind).is_empty());
+        assert!(rest(&file[1..], kind).is_empty());
+    }
 }
 
 #[test]
@@ -117,13 +165,13 @@ fn write_refuses_in_order_and_leaves_the_buffer() {
     };
     assert_eq!(refused(with_field(1, 0), 200), WriteRefusal::RowCount);
     assert_eq!(refused(with_field(1, 9), 0), WriteRefusal::RowCount);
-    assert_eq!(refused(with_field(37, 1), 0), WriteRefusal::SpareLever);
+    assert_eq!(refused(with_field(38, 1), 0), WriteRefusal::SpareLever);
     let length = file_of(&joint()).len();
     assert_eq!(refused(joint(), length - 1), WriteRefusal::ShortBuffer);
     let mut buffer = vec![7; length + 2];
     assert_eq!(write(&joint(), &mut buffer), Ok(length));
     assert_eq!(buffer[length..], [7, 7]);
-    assert_eq!(read(&buffer).unwrap().0, joint());
+    assert_eq!(read(&buffer, FileKind::New).unwrap().0, joint());
 }
 
 #[test]
@@ -149,7 +197,7 @@ fn field_of(joint: &Joint) -> u32 {
 /// Each field at both ends of its range, and one past each.
 #[test]
 fn work_10_ranges() {
-    let ends: [(usize, u32, u32); 22] = [
+    let ends: [(usize, u32, u32); 23] = [
         (8, 1000, 15000),
         (9, 500, 6000),
         (10, 40, 500),
@@ -171,7 +219,8 @@ fn work_10_ranges() {
         (26, 0, 8),
         (28, 0, 10_000_000),
         (29, 0, 10_000_000),
-        (30, 1, 20000),
+        (30, 1, 15000),
+        (31, 1, 20000),
     ];
     for (number, low, high) in ends {
         for value in [low, high] {
@@ -206,13 +255,25 @@ fn work_10_other_fields() {
     ] {
         assert_eq!(field_of(&with_field(27, axial as u32)), field);
     }
-    for number in 31..=37 {
+    for number in 32..=38 {
         assert_eq!(field_of(&with_field(number, 1)), number as u32);
     }
     for (edge, field) in [(149, 21), (150, 0), (2000, 0), (2001, 21), (0, 21)] {
         assert_eq!(field_of(&extended(|face| face.layout.edge = edge)), field);
     }
     assert_eq!(work(&with_field(3, 47)).unwrap_err().number(), 10);
+}
+
+/// Field 30 is told after field 29 and before the levers.
+#[test]
+fn work_10_the_column_end_in_its_place() {
+    let mut fields = fields();
+    (fields[28], fields[29], fields[30]) = (10_000_001, 0, 0);
+    assert_eq!(field_of(&Joint::from_fields(&fields)), 29);
+    fields[28] = 0;
+    assert_eq!(field_of(&Joint::from_fields(&fields)), 30);
+    fields[29] = 15000;
+    assert_eq!(field_of(&Joint::from_fields(&fields)), 31);
 }
 
 #[test]
@@ -230,8 +291,8 @@ fn work_11_lever_order() {
 #[test]
 fn work_12_row_place() {
     // 2Db − 3Tb = 5788, 2Db − Tb = 6024
-    assert!(work(&with_field(30, 2893)).is_ok());
-    assert_eq!(work(&with_field(30, 2894)), Err(WorkRefusal::RowPlace));
+    assert!(work(&with_field(31, 2893)).is_ok());
+    assert_eq!(work(&with_field(31, 2894)), Err(WorkRefusal::RowPlace));
     let worked = |first, second| work(&extended(|face| face.levers = levers(first, second)));
     assert!(worked(3500, 2893).is_ok());
     assert_eq!(worked(3012, 2400), Err(WorkRefusal::RowPlace));
