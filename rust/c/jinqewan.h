@@ -1,6 +1,6 @@
 /* The proved calls, for C. Link with libexports.a.
  *
- * A slice is a pointer with its count of elements. A joint is 37 words, its fields in order (docs/rules.md, 2.1) with spare levers 0; the axial
+ * A slice is a pointer with its count of elements. A joint is 38 words, its fields in order (docs/rules.md, 2.1) with spare levers 0; the axial
  * force is its two's complement. Slices that a call reads and slices that it writes don't overlap.
  *
  * Each call but jinqewan_rest answers 0 where it did what it is for, and else one number that tells why not: the refusal's number
@@ -17,13 +17,19 @@ extern "C" {
 #endif
 
 enum {
-    JINQEWAN_JOINT_WORDS = 37,
+    JINQEWAN_JOINT_WORDS = 38,
     JINQEWAN_FORCES = 8,
     JINQEWAN_RESULT_WORDS = 17,
-    JINQEWAN_LONGEST_FILE = 181,
+    JINQEWAN_LONGEST_FILE = 186,
     JINQEWAN_LONGEST_INPUT = 65536,
     JINQEWAN_SHORT = 100,
     JINQEWAN_NO_ROOM = 101
+};
+
+/* The kinds of joint file: one of the old kind has no field 30, and gives 15000 for it. Any number but 1 is taken for the new kind. */
+enum {
+    JINQEWAN_OLD_KIND = 1,
+    JINQEWAN_NEW_KIND = 2
 };
 
 /* The parts of an answer. */
@@ -31,7 +37,7 @@ enum {
 #define JINQEWAN_FIELD(answer) (((answer) >> 8) & 255u)
 
 /* No sheet of so many bytes of input is longer, up to JINQEWAN_LONGEST_INPUT of them. */
-#define JINQEWAN_LONGEST_SHEET(bytes) (((size_t)(bytes) + 29) / 30 * 283)
+#define JINQEWAN_LONGEST_SHEET(bytes) (((size_t)(bytes) + 30) / 31 * 283)
 
 /* The words of a result. */
 enum {
@@ -50,21 +56,22 @@ enum {
 /* Row forces under the limits of row groups 1-1, 1-2, .. 1-n, 2-2 and so on. `forces` has 8 places. */
 uint32_t jinqewan_allocate(size_t count, const uint64_t *limits, size_t limits_length, uint64_t *forces, size_t forces_length);
 
-/* The joint that the bytes begin with, into `fields`, which has 37 places, and the place after it into `next`. */
-uint32_t jinqewan_read(const uint8_t *bytes, size_t bytes_length, uint32_t *fields, size_t fields_length, size_t *next);
+/* The joint that the bytes, files of this kind, begin with, into `fields`, which has 38 places, and the place after it into `next`. */
+uint32_t jinqewan_read(const uint8_t *bytes, size_t bytes_length, uint32_t kind, uint32_t *fields, size_t fields_length, size_t *next);
 
 /* The place where the bytes after the first joint begin: the end when it can't be read. */
-size_t jinqewan_rest(const uint8_t *bytes, size_t bytes_length);
+size_t jinqewan_rest(const uint8_t *bytes, size_t bytes_length, uint32_t kind);
 
-/* The joint's file into `buffer`, and its length into `length`. */
+/* The joint's file, of the new kind, into `buffer`, and its length into `length`. */
 uint32_t jinqewan_write(const uint32_t *fields, size_t fields_length, uint8_t *buffer, size_t buffer_length, size_t *length);
 
 /* The joint worked, into `result`, which has 17 places. */
 uint32_t jinqewan_work(const uint32_t *fields, size_t fields_length, uint64_t *result, size_t result_length);
 
-/* The sheet of joint files end to end, into `output`, and its length into `length`. The sheet's refusals are its lines, `R 4` too: they
- * are printed, and the answer is 0; or JINQEWAN_NO_ROOM where `output` can't hold all lines. An output of JINQEWAN_LONGEST_SHEET bytes
- * always can; in a shorter one the lines are measured before they are printed, which takes about as long again. */
+/* The sheet of joint files of the new kind end to end, into `output`, and its length into `length`. The sheet's refusals are its lines,
+ * `R 4` too: they are printed, and the answer is 0; or JINQEWAN_NO_ROOM where `output` can't hold all lines. An output of
+ * JINQEWAN_LONGEST_SHEET bytes always can; in a shorter one the lines are measured before they are printed, which takes about as long
+ * again. */
 uint32_t jinqewan_sheet(const uint8_t *input, size_t input_length, uint8_t *output, size_t output_length, size_t *length);
 
 #ifdef __cplusplus

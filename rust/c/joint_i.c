@@ -7,7 +7,7 @@ int main(void)
 {
     const uint32_t joint[JINQEWAN_JOINT_WORDS] = {
         1, 0, 88, 20, 275, 275, 275, 5283, 2087, 132, 96, 127, 4765, 3071, 1657, 118, 67, 2000, 200,
-        900, 0, 600, 80, 60, 2000, 1, 0, 57000, 50000, 2400};
+        900, 0, 600, 80, 60, 2000, 1, 0, 57000, 50000, 15000, 2400};
     uint64_t result[JINQEWAN_RESULT_WORDS];
     uint32_t answer = jinqewan_work(joint, JINQEWAN_JOINT_WORDS, result, JINQEWAN_RESULT_WORDS);
     if (answer != 0) {

@@ -1,14 +1,18 @@
-//! The proved calls. A joint is 37 words of 32 bits, its fields in order (docs/rules.md, 2.1), N by its two's complement. Each call but `rest`
+//! The proved calls. A joint is 38 words of 32 bits, its fields in order (docs/rules.md, 2.1), N by its two's complement. Each call but `rest`
 //! answers 0 where it did what it is for, and else one number that tells why not (`number`, `field`); then every slice and place that was
 //! lent is as it was.
 
 /// Words of a joint.
-pub const JOINT_WORDS: usize = 37;
+pub const JOINT_WORDS: usize = 38;
 /// Places of Allocate's answer.
 pub const FORCES: usize = 8;
 /// Words of a result: eight forces, sum, newton metres, cap, check (0 to 3 for F, B, K, S), governing force, and 1 or 0 for bending,
 /// bolts, flange weld and web weld.
 pub const RESULT_WORDS: usize = 17;
+/// A file without field 30; it gives 15000 for it.
+pub const OLD_KIND: u32 = 1;
+/// A file with field 30. Any number but 1 is taken for this one.
+pub const NEW_KIND: u32 = 2;
 /// A lent slice is too short.
 pub const SHORT: u32 = 100;
 /// The sheet's output has no room for all lines.
@@ -26,7 +30,7 @@ pub const fn field(answer: u32) -> u32 {
 
 /// No sheet of so many bytes is longer. In an output that is shorter the lines are measured before they are printed.
 pub const fn longest_sheet(input: usize) -> usize {
-    (input + 29) / 30 * 283
+    (input + 30) / 31 * 283
 }
 
 mod c {
@@ -41,11 +45,12 @@ mod c {
         pub fn jinqewan_read(
             bytes: *const u8,
             bytes_length: usize,
+            kind: u32,
             fields: *mut u32,
             fields_length: usize,
             next: *mut usize,
         ) -> u32;
-        pub fn jinqewan_rest(bytes: *const u8, bytes_length: usize) -> usize;
+        pub fn jinqewan_rest(bytes: *const u8, bytes_length: usize, kind: u32) -> usize;
         pub fn jinqewan_write(
             fields: *const u32,
             fields_length: usize,
@@ -81,11 +86,12 @@ pub fn allocate(count: usize, limits: &[u64], forces: &mut [u64]) -> u32 {
     }
 }
 
-pub fn read(bytes: &[u8], fields: &mut [u32], next: &mut usize) -> u32 {
+pub fn read(bytes: &[u8], kind: u32, fields: &mut [u32], next: &mut usize) -> u32 {
     unsafe {
         c::jinqewan_read(
             bytes.as_ptr(),
             bytes.len(),
+            kind,
             fields.as_mut_ptr(),
             fields.len(),
             next,
@@ -94,10 +100,11 @@ pub fn read(bytes: &[u8], fields: &mut [u32], next: &mut usize) -> u32 {
 }
 
 /// The place where the bytes after the first joint begin.
-pub fn rest(bytes: &[u8]) -> usize {
-    unsafe { c::jinqewan_rest(bytes.as_ptr(), bytes.len()) }
+pub fn rest(bytes: &[u8], kind: u32) -> usize {
+    unsafe { c::jinqewan_rest(bytes.as_ptr(), bytes.len(), kind) }
 }
 
+/// A file of the new kind.
 pub fn write(fields: &[u32], buffer: &mut [u8], length: &mut usize) -> u32 {
     unsafe {
         c::jinqewan_write(
@@ -121,6 +128,7 @@ pub fn work(fields: &[u32], result: &mut [u64]) -> u32 {
     }
 }
 
+/// Of files of the new kind.
 pub fn sheet(input: &[u8], output: &mut [u8], length: &mut usize) -> u32 {
     unsafe {
         c::jinqewan_sheet(
