@@ -3,8 +3,8 @@
 use crate::random::Random;
 use reference::{work, Beam, Bolts, Column, Face, Joint, Layout, Loads, Plate, Welds, FIELDS};
 
-/// The ends of fields 8 to 20 and 22 to 26, which are plain ranges.
-const RANGES: [(usize, u32, u32); 18] = [
+/// The ends of fields 8 to 20, 22 to 26 and 30, which are plain ranges.
+const RANGES: [(usize, u32, u32); 19] = [
     (8, 1000, 15000),
     (9, 500, 6000),
     (10, 40, 500),
@@ -23,6 +23,7 @@ const RANGES: [(usize, u32, u32); 18] = [
     (24, 30, 250),
     (25, 0, 15000),
     (26, 0, 8),
+    (30, 1, 15000),
 ];
 
 /// A joint in range whose distances mostly leave room, with `rows` rows.
@@ -46,6 +47,7 @@ fn grade(random: &mut Random) -> u32 {
 }
 
 fn column(random: &mut Random) -> Column {
+    let clear = clear(random);
     Column {
         grade: grade(random),
         depth: random.between(1000, 9000),
@@ -53,7 +55,30 @@ fn column(random: &mut Random) -> Column {
         flange: random.between(40, 500),
         web: random.between(30, 250),
         radius: random.between(0, 250),
-        clear: random.between(500, 9000),
+        clear,
+        end_distance: end_distance(random, clear),
+    }
+}
+
+/// Often a multiple of 10, of which 0.7 is whole.
+fn clear(random: &mut Random) -> u32 {
+    let clear = random.between(500, 9000);
+    if random.one_in(4) {
+        clear - clear % 10
+    } else {
+        clear
+    }
+}
+
+/// Anywhere, or far from the column end, or below 0.7dc, or about there.
+fn end_distance(random: &mut Random, clear: u32) -> u32 {
+    let edge = 7 * clear / 10;
+    match random.below(8) {
+        0 => random.between(1, 15000),
+        1 => random.between(edge, 15000),
+        2 | 3 => 15000,
+        4 | 5 => random.between(1, edge),
+        _ => edge - 2 + random.between(0, 4),
     }
 }
 
@@ -242,7 +267,7 @@ fn ends(face: &Face, number: usize) -> (u32, u32) {
         21 => (0, 0),
         27 => (-10_000_000_i32 as u32, 10_000_000),
         28 | 29 => (0, 10_000_000),
-        _ if number - 29 <= face.row_count() => (1, 20000),
+        _ if number - 30 <= face.row_count() => (1, 20000),
         _ => (0, 0),
     }
 }

@@ -7,5 +7,5 @@ mod tables;
 
 pub use joints::{any_joint, sensible_joint, worked_joint};
 pub use random::Random;
-pub use streams::{file_of, stream};
+pub use streams::{file_of, file_of_kind, stream};
 pub use tables::{table, Table};

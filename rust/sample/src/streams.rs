@@ -2,22 +2,43 @@
 
 use crate::joints::any_joint;
 use crate::random::Random;
-use reference::{write, Joint, LONGEST_FILE, LONGEST_INPUT};
+use reference::{write, FileKind, Joint, LONGEST_FILE, LONGEST_INPUT};
 
-/// The joint's file; none where it can't be written.
+/// Numbers of a file before the distance to the column end, which the old kind lacks.
+const NUMBERS_BEFORE_END_DISTANCE: usize = 29;
+
+/// The joint's file, of the new kind; none where it can't be written.
 pub fn file_of(joint: &Joint) -> Vec<u8> {
     let mut buffer = [0; LONGEST_FILE];
     let length = write(joint, &mut buffer).unwrap_or(0);
     buffer[..length].to_vec()
 }
 
-pub fn stream(random: &mut Random) -> Vec<u8> {
+/// The joint's file of this kind; none where it can't be written.
+pub fn file_of_kind(joint: &Joint, kind: FileKind) -> Vec<u8> {
+    let mut file = file_of(joint);
+    if kind == FileKind::Old && !file.is_empty() {
+        let start = numbers_length(&file, NUMBERS_BEFORE_END_DISTANCE);
+        let end = start + numbers_length(&file[start..], 1);
+        file.drain(start..end);
+    }
+    file
+}
+
+/// How many bytes the first numbers of a file take.
+fn numbers_length(file: &[u8], count: usize) -> usize {
+    let last_bytes = (0..file.len()).filter(|&place| file[place] < 0x80);
+    last_bytes.take(count).last().map_or(0, |place| place + 1)
+}
+
+/// Mostly of files of this kind.
+pub fn stream(random: &mut Random, kind: FileKind) -> Vec<u8> {
     if random.one_in(16) {
         return noise(random);
     }
     let files = random.below(6);
     let mut bytes: Vec<u8> = (0..files)
-        .flat_map(|_| file_of(&any_joint(random)))
+        .flat_map(|_| file_of_kind(&any_joint(random), kind))
         .collect();
     for _ in 0..random.below(4) {
         damage(random, &mut bytes);
@@ -74,4 +95,23 @@ fn stretch(random: &mut Random, bytes: &mut Vec<u8>) {
     }
     let length = LONGEST_INPUT - 2 + random.below(5) as usize;
     *bytes = bytes.iter().copied().cycle().take(length).collect();
+}
+
+#[cfg(test)]
+mod tests {
+    use super::*;
+    use reference::read;
+
+    #[test]
+    fn the_old_kind_lacks_the_distance_to_the_column_end() {
+        let mut random = Random::new(1);
+        for _ in 0..10_000 {
+            let mut joint = any_joint(&mut random);
+            let file = file_of_kind(&joint, FileKind::Old);
+            if !file.is_empty() {
+                joint.column.end_distance = 15000;
+                assert_eq!(read(&file, FileKind::Old), Ok((joint, &[][..])));
+            }
+        }
+    }
 }
