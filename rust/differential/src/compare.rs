@@ -1,11 +1,14 @@
 //! One input, both answers.
 
 use crate::tally::Tally;
-use proved::{longest_sheet, FORCES, JOINT_WORDS, NO_ROOM, RESULT_WORDS, SHORT};
-use reference::{
-    Check, Face, FaceResult, Joint, Verdicts, WorkRefusal, LONGEST_FILE, LONGEST_INPUT,
+use proved::{
+    longest_sheet, FORCES, JOINT_WORDS, NEW_KIND, NO_ROOM, OLD_KIND, RESULT_WORDS, SHORT,
 };
-use sample::{any_joint, Random, Table};
+use reference::{
+    Check, Column, FaceResult, FileKind, Joint, ReadRefusal, Verdicts, WorkRefusal, LONGEST_FILE,
+    LONGEST_INPUT,
+};
+use sample::{any_joint, file_of_kind, Random, Table};
 use std::fmt::Debug;
 
 /// The input and both answers, for printing.
@@ -46,7 +49,7 @@ pub fn compare_work(joint: &Joint, tally: &mut Tally) -> Result<(), Difference> 
         }
         Err(refusal) => (refusal.number(), refusal.field()),
     };
-    count_worked(&joint.face, &worked, tally);
+    count_worked(joint, &worked, tally);
     same(
         "work",
         &fields,
@@ -76,7 +79,7 @@ fn result_words(result: &FaceResult) -> [u64; RESULT_WORDS] {
     words
 }
 
-fn count_worked(face: &Face, worked: &Result<FaceResult, WorkRefusal>, tally: &mut Tally) {
+fn count_worked(joint: &Joint, worked: &Result<FaceResult, WorkRefusal>, tally: &mut Tally) {
     let result = match worked {
         Ok(result) => result,
         Err(refusal) => {
@@ -87,8 +90,8 @@ fn count_worked(face: &Face, worked: &Result<FaceResult, WorkRefusal>, tally: &m
         }
     };
     tally.count("work: worked");
-    tally.count_rows(face.rows);
-    tally.count(if face.is_extended() {
+    tally.count_rows(joint.face.rows);
+    tally.count(if joint.face.is_extended() {
         "work: extended"
     } else {
         "work: flush"
@@ -102,7 +105,27 @@ fn count_worked(face: &Face, worked: &Result<FaceResult, WorkRefusal>, tally: &m
     if result.sum == result.cap {
         tally.count("work: limited by the cap");
     }
+    count_column_end(&joint.column, result.check, tally);
     count_verdicts(&result.verdicts, tally);
+}
+
+/// Where the column end stands to 0.7dc.
+fn count_column_end(column: &Column, check: Check, tally: &mut Tally) {
+    let end = 10 * column.end_distance;
+    let edge = 7 * column.clear;
+    if end < edge {
+        tally.count("work: buckling lowered near the column end");
+        if check == Check::Buckling {
+            tally.count("work: governed by lowered buckling");
+        }
+        if edge - end <= 10 {
+            tally.count("work: column end one step nearer than 0.7dc");
+        }
+    } else if end == edge {
+        tally.count("work: column end at 0.7dc");
+    } else if end - edge <= 10 {
+        tally.count("work: column end one step past 0.7dc");
+    }
 }
 
 fn count_verdicts(verdicts: &Verdicts, tally: &mut Tally) {
@@ -164,7 +187,8 @@ pub fn compare_file(
         (answer, length, &buffer),
         (number, expected_length, &expected),
     )?;
-    compare_read(&buffer, tally)
+    let kind = random_kind(random);
+    compare_read(&buffer, kind_number(random, kind), tally)
 }
 
 fn write_kind(refusal: reference::WriteRefusal) -> &'static str {
@@ -175,37 +199,73 @@ fn write_kind(refusal: reference::WriteRefusal) -> &'static str {
     }
 }
 
-fn compare_read(bytes: &[u8], tally: &mut Tally) -> Result<(), Difference> {
+pub fn random_kind(random: &mut Random) -> FileKind {
+    random.pick(&[FileKind::Old, FileKind::New, FileKind::New])
+}
+
+/// The number that a caller gives for a kind: 1 is the old one, any other the new.
+fn kind_number(random: &mut Random, kind: FileKind) -> u32 {
+    match kind {
+        FileKind::Old => OLD_KIND,
+        FileKind::New if random.one_in(8) => {
+            random.pick(&[0, 3, 257, 65537, 0x8000_0001, u32::MAX])
+        }
+        FileKind::New => NEW_KIND,
+    }
+}
+
+fn kind_of(number: u32) -> FileKind {
+    if number == 1 {
+        FileKind::Old
+    } else {
+        FileKind::New
+    }
+}
+
+fn compare_read(bytes: &[u8], number: u32, tally: &mut Tally) -> Result<(), Difference> {
+    let kind = kind_of(number);
     let mut fields = [MARK_32; JOINT_WORDS + 1];
     let mut next = MARK_PLACE;
-    let answer = proved::read(bytes, &mut fields, &mut next);
+    let answer = proved::read(bytes, number, &mut fields, &mut next);
+    let read = reference::read(bytes, kind);
+    count_read(number, &read.map(|_| ()), tally);
     let mut expected = [MARK_32; JOINT_WORDS + 1];
-    let (number, place) = match reference::read(bytes) {
+    let (refusal, place) = match read {
         Ok((joint, rest)) => {
             expected[..JOINT_WORDS].copy_from_slice(&joint.to_fields());
-            tally.count("read: joint");
             (0, bytes.len() - rest.len())
         }
-        Err(refusal) => {
-            tally.count(
-                ["read: refusal 1", "read: refusal 2", "read: refusal 3"][refusal as usize - 1],
-            );
-            (refusal as u32, MARK_PLACE)
-        }
+        Err(refusal) => (refusal as u32, MARK_PLACE),
     };
     same(
         "read",
-        &bytes,
+        &(bytes, number),
         (answer, next, fields),
-        (number, place, expected),
+        (refusal, place, expected),
     )?;
-    let start = proved::rest(bytes);
+    let start = proved::rest(bytes, number);
     same(
         "rest",
-        &bytes,
+        &(bytes, number),
         bytes.get(start..),
-        Some(reference::rest(bytes)),
+        Some(reference::rest(bytes, kind)),
     )
+}
+
+fn count_read(number: u32, read: &Result<(), ReadRefusal>, tally: &mut Tally) {
+    if number != OLD_KIND && number != NEW_KIND {
+        tally.count("read: the new kind by a number that isn't 2");
+    }
+    tally.count(match (kind_of(number), read) {
+        (FileKind::New, Ok(())) => "read: joint",
+        (FileKind::New, Err(ReadRefusal::BytesEnd)) => "read: refusal 1",
+        (FileKind::New, Err(ReadRefusal::NumberForm)) => "read: refusal 2",
+        (FileKind::New, Err(ReadRefusal::RowCount)) => "read: refusal 3",
+        (FileKind::Old, Ok(())) => "read, old kind: joint",
+        (FileKind::Old, Err(ReadRefusal::BytesEnd)) => "read, old kind: refusal 1",
+        (FileKind::Old, Err(ReadRefusal::NumberForm)) => "read, old kind: refusal 2",
+        (FileKind::Old, Err(ReadRefusal::RowCount)) => "read, old kind: refusal 3",
+    });
 }
 
 // ---- Allocate
@@ -237,16 +297,19 @@ pub fn compare_allocate(
 
 // ---- Streams
 
+/// Files of the kind, read one after the other under its number, and the sheet of them.
 pub fn compare_stream(
     bytes: &[u8],
+    kind: FileKind,
     random: &mut Random,
     tally: &mut Tally,
 ) -> Result<(), Difference> {
+    let number = kind_number(random, kind);
     let mut place = 0;
     loop {
         let rest = &bytes[place..];
-        compare_read(rest, tally)?;
-        let taken = proved::rest(rest);
+        compare_read(rest, number, tally)?;
+        let taken = proved::rest(rest, number);
         if rest.is_empty() || taken == rest.len() || bytes.len() > LONGEST_INPUT {
             break;
         }
@@ -333,14 +396,16 @@ fn short_allocate(random: &mut Random) -> Result<(), Difference> {
 }
 
 fn short_read(joint: &Joint, random: &mut Random) -> Result<(), Difference> {
-    let file = sample::file_of(joint);
+    let kind = random_kind(random);
+    let file = file_of_kind(joint, kind);
     let mut words = vec![MARK_32; random.below(JOINT_WORDS as u64) as usize];
     let untouched = words.clone();
     let mut next = MARK_PLACE;
-    let answer = proved::read(&file, &mut words, &mut next);
+    let number = kind_number(random, kind);
+    let answer = proved::read(&file, number, &mut words, &mut next);
     same(
         "short read",
-        &(&file, words.len()),
+        &(&file, number, words.len()),
         (answer, &words, next),
         (SHORT, &untouched, MARK_PLACE),
     )

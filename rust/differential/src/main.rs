@@ -6,7 +6,8 @@ mod compare;
 mod tally;
 
 use compare::{
-    compare_allocate, compare_file, compare_short, compare_stream, compare_work, Difference,
+    compare_allocate, compare_file, compare_short, compare_stream, compare_work, random_kind,
+    Difference,
 };
 use sample::{any_joint, stream, table, Random};
 use std::process::ExitCode;
@@ -48,7 +49,15 @@ fn run(seed: u64, joints: u64, tally: &mut Tally) -> Result<(), Difference> {
         compare_allocate(&table(&mut random), &mut random, tally)?;
     }
     for _ in 0..joints / 4 {
-        compare_stream(&stream(&mut random), &mut random, tally)?;
+        let kind = random_kind(&mut random);
+        let bytes = stream(&mut random, kind);
+        // now and then under the number of the other kind
+        let told = if random.one_in(16) {
+            random_kind(&mut random)
+        } else {
+            kind
+        };
+        compare_stream(&bytes, told, &mut random, tally)?;
     }
     for _ in 0..joints / 100 {
         compare_short(&mut random, tally)?;

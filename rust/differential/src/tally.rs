@@ -4,15 +4,20 @@ use std::collections::BTreeMap;
 use std::fmt;
 
 /// What a run of full size has to reach.
-const KINDS: [&str; 45] = [
+const KINDS: [&str; 55] = [
     "allocate: refusal 3",
     "allocate: refusal 7",
     "allocate: refusal 8",
     "allocate: shared",
+    "read, old kind: joint",
+    "read, old kind: refusal 1",
+    "read, old kind: refusal 2",
+    "read, old kind: refusal 3",
     "read: joint",
     "read: refusal 1",
     "read: refusal 2",
     "read: refusal 3",
+    "read: the new kind by a number that isn't 2",
     "sheet: R 4",
     "sheet: ended by a read refusal",
     "sheet: measured first",
@@ -28,6 +33,10 @@ const KINDS: [&str; 45] = [
     "work: bending passes",
     "work: bolts fail",
     "work: bolts pass",
+    "work: buckling lowered near the column end",
+    "work: column end at 0.7dc",
+    "work: column end one step nearer than 0.7dc",
+    "work: column end one step past 0.7dc",
     "work: extended",
     "work: flange weld fails",
     "work: flange weld passes",
@@ -36,6 +45,7 @@ const KINDS: [&str; 45] = [
     "work: governed by F",
     "work: governed by K",
     "work: governed by S",
+    "work: governed by lowered buckling",
     "work: limited by the cap",
     "work: refusal 10",
     "work: refusal 11",
@@ -80,7 +90,7 @@ impl Tally {
             .iter()
             .filter(|kind| !self.counts.contains_key(**kind))
             .map(|kind| kind.to_string());
-        let fields = (1..=37)
+        let fields = (1..=38)
             .filter(|field| !self.fields.contains_key(field))
             .map(|field| format!("field {field}"));
         let rows = (1..=8)
