@@ -4,8 +4,8 @@
 mod rounds;
 mod words;
 
-use proved::{longest_sheet, FORCES, JOINT_WORDS, RESULT_WORDS};
-use reference::{Joint, GROUPS, LONGEST_FILE, LONGEST_INPUT};
+use proved::{longest_sheet, FORCES, JOINT_WORDS, NEW_KIND, RESULT_WORDS};
+use reference::{FileKind, Joint, GROUPS, LONGEST_FILE, LONGEST_INPUT};
 use rounds::measure;
 use sample::{file_of, worked_joint, Random};
 use std::hint::black_box;
@@ -65,7 +65,12 @@ fn time_read(random: &mut Random) -> [f64; 3] {
     measure([
         &mut || {
             for file in &files {
-                black_box(proved::read(black_box(file), &mut proved_words, &mut next));
+                black_box(proved::read(
+                    black_box(file),
+                    black_box(NEW_KIND),
+                    &mut proved_words,
+                    &mut next,
+                ));
                 black_box((&proved_words, next));
             }
         },
@@ -73,6 +78,7 @@ fn time_read(random: &mut Random) -> [f64; 3] {
             for file in &files {
                 black_box(words::read(
                     black_box(file),
+                    black_box(FileKind::New),
                     &mut plain_words,
                     &mut plain_next,
                 ));
@@ -81,7 +87,7 @@ fn time_read(random: &mut Random) -> [f64; 3] {
         },
         &mut || {
             for file in &files {
-                black_box(&reference::read(black_box(file)));
+                black_box(&reference::read(black_box(file), black_box(FileKind::New)));
             }
         },
     ])

@@ -1,11 +1,11 @@
 //! The plain calls over the same words and bytes as the proved ones. None is inlined, as the proved ones can't be.
 
 use proved::{FORCES, JOINT_WORDS, RESULT_WORDS};
-use reference::{FaceResult, Joint};
+use reference::{FaceResult, FileKind, Joint};
 
 #[inline(never)]
-pub fn read(file: &[u8], words: &mut [u32; JOINT_WORDS], next: &mut usize) -> u32 {
-    match reference::read(file) {
+pub fn read(file: &[u8], kind: FileKind, words: &mut [u32; JOINT_WORDS], next: &mut usize) -> u32 {
+    match reference::read(file, kind) {
         Ok((joint, rest)) => {
             *words = joint.to_fields();
             *next = file.len() - rest.len();
