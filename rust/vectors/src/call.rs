@@ -1,7 +1,7 @@
 //! The kinds of vectors, and reading what they ask.
 
 use crate::items::Items;
-use reference::Joint;
+use reference::{FileKind, Joint};
 
 /// The longest buffer that Write is lent.
 const LONGEST_BUFFER: u64 = 512;
@@ -13,7 +13,7 @@ const MOST_LIMITS: usize = 64;
 pub enum Call {
     Work(Joint),
     Allocate { count: u64, limits: Vec<u64> },
-    Read(Vec<u8>),
+    Read { bytes: Vec<u8>, kind: FileKind },
     Write { joint: Joint, size: usize },
     Cell(Cell),
     Shear { printed: Printed, joint: Joint },
@@ -44,7 +44,8 @@ impl Call {
         let call = match word {
             "work" => Call::Work(items.joint()?),
             "allocate" => allocate(&mut items)?,
-            "read" => Call::Read(items.bytes()?),
+            "read" => read(&mut items, FileKind::New)?,
+            "old" => read(&mut items, FileKind::Old)?,
             "write" => Call::Write {
                 joint: items.joint()?,
                 size: items.number(0..=LONGEST_BUFFER)? as usize,
@@ -69,6 +70,11 @@ fn allocate(items: &mut Items) -> Result<Call, String> {
         return Err(format!("more than {MOST_LIMITS} limits"));
     }
     Ok(Call::Allocate { count, limits })
+}
+
+fn read(items: &mut Items, kind: FileKind) -> Result<Call, String> {
+    let bytes = items.bytes()?;
+    Ok(Call::Read { bytes, kind })
 }
 
 fn cell(items: &mut Items, is_exception: bool) -> Result<Cell, String> {
@@ -107,7 +113,14 @@ mod tests {
             limits: vec![],
         };
         assert_eq!(Call::of("allocate 18446744073709551615"), Ok(none));
-        assert_eq!(Call::of("read -"), Ok(Call::Read(vec![])));
+        let none = |kind| {
+            Ok(Call::Read {
+                bytes: vec![],
+                kind,
+            })
+        };
+        assert_eq!(Call::of("read -"), none(FileKind::New));
+        assert_eq!(Call::of("old -"), none(FileKind::Old));
         let printed = Printed {
             count: 2,
             newtons: 3,
@@ -166,7 +179,7 @@ mod tests {
         );
         assert_eq!(
             why(&format!("write {JOINT_I} 513")),
-            "item 38, `513`: not a number from 0 to 512"
+            "item 39, `513`: not a number from 0 to 512"
         );
         assert_eq!(
             why(&format!("cell 1 1 1 1 20 {JOINT_I}")),

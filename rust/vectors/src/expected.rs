@@ -2,7 +2,7 @@
 
 use crate::call::{Call, Cell, Printed};
 use crate::items::Answer;
-use reference::{allocate, read, work, write, FaceResult, Joint, ROWS};
+use reference::{allocate, read, work, write, FaceResult, FileKind, Joint, ROWS};
 
 /// What each byte of the buffer is before Write is called.
 const UNWRITTEN: u8 = 0xa5;
@@ -12,7 +12,7 @@ pub fn expected(call: &Call) -> Result<String, String> {
     let answer = match call {
         Call::Work(joint) => Answer::default().numbers(&worked(joint)),
         Call::Allocate { count, limits } => shared(*count, limits),
-        Call::Read(bytes) => joint_read(bytes),
+        Call::Read { bytes, kind } => joint_read(bytes, *kind),
         Call::Write { joint, size } => written(joint, *size),
         Call::Cell(cell) => cell_met(cell)?,
         Call::Shear { printed, joint } => shear_met(printed, joint)?,
@@ -61,8 +61,8 @@ fn shared(count: u64, limits: &[u64]) -> Answer {
     Answer::default().number(refusal).numbers(&forces)
 }
 
-fn joint_read(bytes: &[u8]) -> Answer {
-    let (refusal, next, joint) = match read(bytes) {
+fn joint_read(bytes: &[u8], kind: FileKind) -> Answer {
+    let (refusal, next, joint) = match read(bytes, kind) {
         Ok((joint, rest)) => (0, bytes.len() - rest.len(), joint),
         Err(refusal) => (refusal as u64, bytes.len(), Joint::default()),
     };
@@ -141,7 +141,7 @@ mod tests {
     use crate::JOINT_I;
 
     const RESULT_I: &str = " 0 0 219345 0 0 0 0 0 0 0 219345 52642 407706 2 407706 1 1 1 1";
-    const FILE_I: &str = "01005814930293029302a329a7108401607f9d25ff17f90c7643d00fc801840700d804503cd00f0100a8bd03d08603e012";
+    const FILE_I: &str = "01005814930293029302a329a7108401607f9d25ff17f90c7643d00fc801840700d804503cd00f0100a8bd03d086039875e012";
 
     fn answer(text: &str) -> Result<String, String> {
         expected(&Call::of(text).unwrap())
@@ -184,16 +184,24 @@ mod tests {
 
     #[test]
     fn read_vectors() {
+        let old_file = FILE_I.replace("9875", "");
         for rest in ["", "ff"] {
             assert_eq!(
                 answer(&format!("read {FILE_I}{rest}")).unwrap(),
+                format!(" 0 51 {JOINT_I}")
+            );
+            assert_eq!(
+                answer(&format!("old {old_file}{rest}")).unwrap(),
                 format!(" 0 49 {JOINT_I}")
             );
         }
-        let refused = |refusal, length| format!(" {refusal} {length}{}", zeros(37));
-        assert_eq!(answer("read -").unwrap(), refused(1, 0));
-        assert_eq!(answer("read ac8200").unwrap(), refused(2, 3));
-        assert_eq!(answer("read 0901").unwrap(), refused(3, 2));
+        let refused = |refusal, length| format!(" {refusal} {length}{}", zeros(38));
+        for word in ["read", "old"] {
+            let answered = |bytes| answer(&format!("{word} {bytes}")).unwrap();
+            assert_eq!(answered("-"), refused(1, 0));
+            assert_eq!(answered("ac8200"), refused(2, 3));
+            assert_eq!(answered("0901"), refused(3, 2));
+        }
     }
 
     #[test]
@@ -206,9 +214,9 @@ mod tests {
     #[test]
     fn write_vectors() {
         let written = |size| answer(&format!("write {JOINT_I} {size}")).unwrap();
-        assert_eq!(written(51), format!(" 0 49 {FILE_I}a5a5"));
-        assert_eq!(written(49), format!(" 0 49 {FILE_I}"));
-        assert_eq!(written(48), format!(" 5 0 {}", "a5".repeat(48)));
+        assert_eq!(written(53), format!(" 0 51 {FILE_I}a5a5"));
+        assert_eq!(written(51), format!(" 0 51 {FILE_I}"));
+        assert_eq!(written(50), format!(" 5 0 {}", "a5".repeat(50)));
         assert_eq!(written(0), " 5 0 -");
     }
 

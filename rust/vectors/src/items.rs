@@ -38,7 +38,7 @@ impl<'a> Items<'a> {
         (0..count).map(|_| self.number(0..=u64::MAX)).collect()
     }
 
-    /// 37 numbers, the fields in file order with spare levers.
+    /// 38 numbers, the fields in file order with spare levers.
     pub fn joint(&mut self) -> Result<Joint, String> {
         let mut fields = [0; FIELDS];
         for (place, field) in fields.iter_mut().enumerate() {
