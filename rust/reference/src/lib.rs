@@ -1,4 +1,5 @@
-//! Document 01 read in plain Rust. It was written from the paper, with the signatures of the proved calls and some of their bodies known.
+//! Document 01, and the rule for joints near the column end, read in plain Rust. It was written from the paper, with the signatures of the
+//! proved calls and some of their bodies known.
 //! Rows count from 0 here, from 1 in the rules.
 
 mod compression;
