@@ -113,14 +113,6 @@ mod tests {
             limits: vec![],
         };
         assert_eq!(Call::of("allocate 18446744073709551615"), Ok(none));
-        let none = |kind| {
-            Ok(Call::Read {
-                bytes: vec![],
-                kind,
-            })
-        };
-        assert_eq!(Call::of("read -"), none(FileKind::New));
-        assert_eq!(Call::of("old -"), none(FileKind::Old));
         let printed = Printed {
             count: 2,
             newtons: 3,
@@ -141,6 +133,17 @@ mod tests {
         );
         let shear = Call::Shear { printed, joint };
         assert_eq!(Call::of(&format!("shear 1 2 3 4 {JOINT_I}")), Ok(shear));
+    }
+
+    #[test]
+    fn files_of_both_kinds() {
+        for (text, kind) in [("read 0a", FileKind::New), ("old 0a", FileKind::Old)] {
+            let bytes = vec![10];
+            assert_eq!(Call::of(text), Ok(Call::Read { bytes, kind }));
+        }
+        let bytes = vec![];
+        let kind = FileKind::New;
+        assert_eq!(Call::of("read -"), Ok(Call::Read { bytes, kind }));
     }
 
     #[test]
