@@ -1,4 +1,4 @@
--- The four resistances of the compression side, in newtons (rules 5.1 to 5.5). yc and yb stand for `steel .column`
+-- The four resistances of the compression side, in newtons (rules 5.1 to 5.5 and 5.9). yc and yb stand for `steel .column`
 -- and `steel .beam`. Assumes nothing.
 use Prim.Native.Nat.{ℕ, _+_, _*_, _/_, _^_, _≤_}
 use mathlib.Core.Bool.{cond}
@@ -36,7 +36,7 @@ IsWebBuckling b yc column = Greatest (λ (w : ℕ). 16 * column .clear * (w * w)
 unfoldable pub webBuckling : (b yc : ℕ) → Column → ℕ
 webBuckling b yc column = greatest 32 (λ (w : ℕ). 16 * column .clear * (w * w)) (bucklingLimit b yc column)
 
--- rule 5.9: a buckling force w, whole already, is lowered where z is below 0.7×dc, which is 10×z below 7×dc
+-- rule 5.9: near a column end the whole w is lowered, where 10×z is below 7×dc; 0.7×dc itself is never rounded
 unfoldable pub reducedNearEnd : (w : ℕ) → Column → ℕ
 reducedNearEnd w column =
     let z = column .«end_distance» in

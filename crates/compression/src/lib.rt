@@ -91,16 +91,15 @@ fn web_buckling(length: u64, strength: u64, column: Column) -> u64
     }
 }
 
-// A buckling force near an end of the column. Both sides of z < 0.7×dc are taken ten times, so that neither is rounded.
+// A buckling force, lowered near an end of the column. z and 0.7×dc are compared ten times as large, so that neither is rounded.
 fn reduced_near_end(force: u64, column: Column) -> u64
     requires { ⌜ (force < 2 ^ 32) × ColumnInRange column ⌝ }
     ensures { λ r. ⌜ r ≡ reducedNearEnd force column ⌝ }
 {
     let clear = column.clear as u64;
-    let near = 10 * (column.end_distance as u64);
-    let far = 7 * clear;
-    if near < far {
-        return force * (near + far) / (14 * clear);
+    let distance = column.end_distance as u64;
+    if 10 * distance < 7 * clear {
+        return force * (10 * distance + 7 * clear) / (14 * clear);
     }
     force
 }

@@ -1,5 +1,5 @@
--- Reading a joint of either kind leaves an end of the bytes, whatever they are, and takes at least a byte: field 1 leaves an end of them, and the numbers
--- after it an end of that. Assumes nothing.
+-- Reading a joint of either kind leaves an end of the bytes, whatever they are, and takes at least a byte: field 1 leaves an end of
+-- them, and the numbers after it an end of that. Assumes nothing.
 use Prim.Native.Nat.{ℕ, _<_}
 use mathlib.Core.Path.{_≡_}
 use mathlib.Core.List.{List}
@@ -18,7 +18,8 @@ use Rattle.jointfile.specs.File.{otherFieldCount, readOthers, readJoint}
 use Rattle.jointfile.specs.declared.FileKind.{FileKind}
 
 -- what follows field 1, or refusal 3
-after-rows : (kind : FileKind) (rows : ℕ) (rest : List ℕ) → LeavesEnd rest (cond (within rowCounts rows) (readOthers kind rows rest) (refused 3))
+after-rows : (kind : FileKind) (rows : ℕ) (rest : List ℕ)
+    → LeavesEnd rest (cond (within rowCounts rows) (readOthers kind rows rest) (refused 3))
 unfolding readOthers
 after-rows kind rows rest =
     end-cond rest (within rowCounts rows) _ _

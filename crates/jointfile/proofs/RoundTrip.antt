@@ -79,7 +79,8 @@ zeros-zero (suc n) = zeros-zero n
 read-file : (kind : FileKind) (rows : ℕ) (others levers left : List ℕ) → within rowCounts rows ≡ true
     → length others ≡ otherFieldCount kind → length levers ≡ rows
     → rows < 2 ^ 32 → ((k : ℕ) → getD others k 0 < 2 ^ 32) → ((k : ℕ) → getD levers k 0 < 2 ^ 32)
-    → readJoint kind (storedAll ((rows ∷ others) ++ levers) ++ left) ≡ got (jointOf (rows ∷ others ++ lacking kind) (eightPlaces levers)) left
+    → readJoint kind (storedAll ((rows ∷ others) ++ levers) ++ left)
+    ≡ got (jointOf (rows ∷ others ++ lacking kind) (eightPlaces levers)) left
 unfolding readJoint readOthers storedAll
 read-file kind rows others levers left count long each small smalls smalls′ =
     let fields = read-storedAll others smalls (storedAll levers ++ left) in
@@ -114,7 +115,8 @@ reads-back kind joint held writable told left =
     let others = other-fields kind joint in
     let few : rows ≤ 8 = row-count-most rows (writable .rows) in
     let whole : rows ∷ others ++ lacking kind ≡ fieldsOf joint =
-    ap₂ (λ (xs ys : List ℕ). xs ++ ys) (sym (stored-fields kind joint)) (sym told) ∙ take-append-drop (storedFieldCount kind) (fieldsOf joint) in
+    ap₂ (λ (xs ys : List ℕ). xs ++ ys) (sym (stored-fields kind joint)) (sym told)
+    ∙ take-append-drop (storedFieldCount kind) (fieldsOf joint) in
     rw (stored-fields kind joint)
     (read-file kind rows others (take rows levers) left (writable .rows) (others-long kind joint)
     (length-take-le rows levers (omega (arith, held .eight)))
@@ -122,14 +124,16 @@ reads-back kind joint held writable told left =
     ∙ ap (λ (j : Joint). got j left)
     (ap₂ jointOf whole (eight-levers rows levers (held .eight) few (writable .spare)) ∙ joint-fields joint))
 
--- Of the new kind that is every such joint, and of the old one those with the z that its files don't tell.
-pub told-new : (joint : Joint) → ToldBy New joint
+-- A file of the new kind tells all of every joint.
+told-new : (joint : Joint) → ToldBy New joint
 unfolding fieldsOf
 told-new joint = refl
 
-pub told-old : (joint : Joint) → joint .column .«end_distance» ≡ 15000 → ToldBy Old joint
+-- Of the old kind: a joint whose z is 15000 is read from its new file less z.
+pub reads-old : (joint : Joint) → Held joint → Writable joint → joint .column .«end_distance» ≡ 15000 → (left : List ℕ)
+    → readJoint Old (file Old joint ++ left) ≡ got joint left
 unfolding fieldsOf
-told-old joint far = ap (λ (z : ℕ). z ∷ []) far
+reads-old joint held writable far = reads-back Old joint held writable (ap (λ (z : ℕ). z ∷ []) far)
 
 -- A joint that is refused for neither 3 nor 6, whatever the buffer.
 pub writable : (joint : Joint) (buffer : List ℕ) → (writing joint buffer .refusal ≡ 3 → ⊥) → (writing joint buffer .refusal ≡ 6 → ⊥)
@@ -228,10 +232,12 @@ unfolding readOthers
 took-others kind bytes rows bytes₁ joint left all first count e =
     let (others, bytes₂, read, e₁) =
     then-got (readNumbers (otherFieldCount kind) bytes₁)
-    (λ others rest. andThen (readNumbers rows rest) (λ levers end. got (jointOf (rows ∷ others ++ lacking kind) (eightPlaces levers)) end))
+    (λ others rest. andThen (readNumbers rows rest)
+    (λ levers end. got (jointOf (rows ∷ others ++ lacking kind) (eightPlaces levers)) end))
     joint left e in
     let (levers, end, read′, e₂) =
-    then-got (readNumbers rows bytes₂) (λ levers end. got (jointOf (rows ∷ others ++ lacking kind) (eightPlaces levers)) end) joint left e₁ in
+    then-got (readNumbers rows bytes₂) (λ levers end. got (jointOf (rows ∷ others ++ lacking kind) (eightPlaces levers)) end)
+    joint left e₁ in
     let form = stored-read bytes rows bytes₁ all first in
     let all₁ = bytes-left (stored rows) bytes₁ bytes form all in
     let taken = taken-all (otherFieldCount kind) bytes₁ others bytes₂ all₁ read in

@@ -16,7 +16,7 @@ use Rattle.jointfile.specs.declared.FileKind.{FileKind}
 use Rattle.jointfile.specs.declared.FileKind.the-variants.{Old, New}
 use Rattle.jointfile.specs.declared.Reading.{Reading}
 
--- rule 9.7: the last of the fields before the levers that a kind of file lacks, as a joint that is read from it has them: z is 15000
+-- rule 9.7: the fields before the levers that a kind of file lacks, the last of them, as reading gives them: of the old kind z, as 15000
 abbrev pub lacking : FileKind → List ℕ
 lacking Old = 15000 ∷ []
 lacking New = []

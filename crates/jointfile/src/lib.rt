@@ -1,7 +1,8 @@
 // Joint files: `read` takes a joint off the front of any bytes, `rest` is what is left after it, and `write` puts a joint's file into a
-// lent buffer. Reading is told which kind of file it is, and writing makes the new kind. Each goes over the bytes once, from front to back. Two things are done twice, for a reason. `write` measures the
-// numbers before it puts them where the buffer may be too short for them, since such a buffer stays untouched. And `rest` reads the
-// joint again; a caller that has `read`'s answer need not ask it, since the bytes from the answer's next place on are what is left.
+// lent buffer. The first two are told which kind of file it is; what is written is of the new kind. Each goes over the bytes once, from
+// front to back. Two things are done twice, for a reason. `write` measures the numbers before it puts them where the buffer may be too
+// short for them, since such a buffer stays untouched. And `rest` reads the joint again; a caller that has `read`'s answer need not ask
+// it, since the bytes from the answer's next place on are what is left.
 use fields::FIELD_COUNT;
 use fields::fields_of;
 use fields::joint_of;
@@ -43,7 +44,7 @@ fn stored_field_count(kind: FileKind) -> usize
     }
 }
 
-// z where the file lacks it.
+// z of a joint whose file doesn't tell it.
 const UNTOLD_END_DISTANCE: u32 = 15000;
 
 // What `read` answers.
@@ -69,7 +70,7 @@ fn no_joint(refusal: u32, end: usize) -> Reading
     }
 }
 
-// Reads what follows field 1. The last field stays as it is put here where the file lacks it.
+// Reads what follows field 1. z is put first, and read over it where the file has it.
 fn read_others(bytes: &[u8], kind: FileKind, rows: u32, from: usize) -> Reading
     requires { ⌜ (rows ≤ 8) × (from ≤ length (now bytes)) ⌝ }
     ensures { λ r. ⌜ r ≡ answer (length (now (bytes .entry))) (readOthers kind rows (drop from (now (bytes .entry)))) ⌝ }

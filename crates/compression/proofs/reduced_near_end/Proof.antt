@@ -11,25 +11,31 @@ use Rattle.compression.proofs.reduced_near_end.Tie as tie
 cast-clear : tie.Need-cast-clear
 cast-clear c = search needs
 
-cast-near : tie.Need-cast-near
-cast-near c = search needs
+cast-distance : tie.Need-cast-distance
+cast-distance c = search needs
 
-mul-near : tie.Need-mul-near
-mul-near c = search needs
+mul-if1 : tie.Need-mul-if1
+mul-if1 c = search needs
 
-mul-far : tie.Need-mul-far
-mul-far c = search needs
+mul-if1-2 : tie.Need-mul-if1-2
+mul-if1-2 c = search needs
+
+mul-result : tie.Need-mul-result
+mul-result c = search needs
+
+mul-result-2 : tie.Need-mul-result-2
+mul-result-2 c = search needs
 
 add-result : tie.Need-add-result
 add-result c = search needs
 
-mul-result : tie.Need-mul-result
-mul-result c =
+mul-result-3 : tie.Need-mul-result-3
+mul-result-3 c =
     let (small, column) = c .before .before .before .pre in
     fits (atMost {n = 4294967295} (omega arith) ⊗ (exactly 10 ⊗ column .end-distance ⊕ exactly 7 ⊗ column .clear)) tt
 
-mul-result-2 : tie.Need-mul-result-2
-mul-result-2 c = search needs
+mul-result-4 : tie.Need-mul-result-4
+mul-result-4 c = search needs
 
 div-result : tie.Need-div-result
 div-result c = search needs
@@ -47,12 +53,14 @@ reduced-near-end-spec =
     tie.close
     (tie.spec
     cast-clear
-    cast-near
-    mul-near
-    mul-far
-    add-result
+    cast-distance
+    mul-if1
+    mul-if1-2
     mul-result
     mul-result-2
+    add-result
+    mul-result-3
+    mul-result-4
     div-result
     returns
     returns-2)

@@ -42,7 +42,8 @@ read-requires c κs = search needs
 same-reading : (c : tie.After-read) → c .read .result ≡ reading (kindOf (begin c .args .kind)) (now (begin c .args .bytes))
 same-reading c = c .read .ensures ∙ ap (λ (kind : FileKind). reading kind (now (begin c .args .bytes))) (c .before .kind-of .ensures)
 
-same-refusal : (c : tie.After-read) → c .read .result .refusal ≡ reading (kindOf (begin c .args .kind)) (now (begin c .args .bytes)) .refusal
+same-refusal : (c : tie.After-read)
+    → c .read .result .refusal ≡ reading (kindOf (begin c .args .kind)) (now (begin c .args .bytes)) .refusal
 same-refusal c = ap (λ (r : Reading). r .refusal) (same-reading c)
 
 returns-2 : tie.Need-returns-2

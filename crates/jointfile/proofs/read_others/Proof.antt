@@ -1,7 +1,7 @@
 -- `read_others` meets its contract: each return is a case of the definition, told by the two runs of numbers.
 -- Assumes nothing.
 use Prim.Native.Nat.{ℕ, _-_}
-use mathlib.Core.Path.{_≡_, refl, sym, ap, ap₂, _∙_}
+use mathlib.Core.Path.{_≡_, sym, ap, ap₂, _∙_}
 use mathlib.Core.List.{List, _∷_, _++_}
 use native.Mathlib.Omega.{arith}
 use lib.Seq.{length-take-le}
@@ -14,7 +14,8 @@ use Rattle.numbers.specs.Run.{readNumbers}
 use Rattle.numbers.specs.Answers.{runRefusal, runMeaning, endPlace}
 use Rattle.numbers.specs.declared.run.Run.{Run}
 use Rattle.jointfile.specs.File.{lacking, otherFieldCount, answer}
-use Rattle.jointfile.proofs.Answers.{stored-count, unread, lent-fields, kept-fields, levers-eight, others-refused, levers-refused, levers-got, answer-got}
+use Rattle.jointfile.proofs.Answers.{stored-count, unread, lent-fields, kept-fields, levers-eight}
+use Rattle.jointfile.proofs.Answers.{others-refused, levers-refused, levers-got, answer-got}
 use borrow.Author.Needs.{needs}
 use Rattle.jointfile.proofs.read_others.Statement.{statement}
 use Rattle.jointfile.proofs.read_others.Tie as tie
@@ -45,14 +46,15 @@ after-others c = c .others .given .0 .0
 
 -- ---- what the runs say
 
--- the places lent for the fields are as many as a file of this kind has
+-- a file of this kind has some fields, and no more than there are places
 stored-known : (c : tie.After-stored-field-count) → Within (1 to fieldCount) (c .stored-field-count .result)
 stored-known c = rw (c .stored-field-count .ensures) (stored-count (start c .args .kind))
 
--- and those past them are as they were put
+-- the places past them are as they were put
 kept : (c : tie.After-stored-field-count) → drop (c .stored-field-count .result - 1) unread ≡ lacking (start c .args .kind)
 kept c = ap (λ (n : ℕ). drop (n - 1) unread) (c .stored-field-count .ensures) ∙ kept-fields (start c .args .kind)
 
+-- the places lent for the other fields are as many as the file has
 others-run : (c : tie.After-numbers-at) (run : Run) → c .numbers-at .result ≡ run → let s = start (counted c) in
     runMeaning (now (s .args .bytes)) (c .numbers-at .last .1 .1 .0) run
     ≡ readNumbers (otherFieldCount (s .args .kind)) (drop (s .args .from) (now (s .args .bytes)))
@@ -63,7 +65,7 @@ others-run c run e =
 others-read : (c : tie.After-others) → let s = start (counted (first-run c)) in
     got (first-run c .numbers-at .last .1 .1 .0) (drop (after-others c) (now (s .args .bytes)))
     ≡ readNumbers (otherFieldCount (s .args .kind)) (drop (s .args .from) (now (s .args .bytes)))
-others-read c = ap (runMeaning _ _) (sym (c .others .given .1)) ∙ others-run (first-run c) _ refl
+others-read c = others-run (first-run c) _ (c .others .given .1)
 
 -- the places lent for the levers are as many as there are rows
 lent : (c : tie.After-numbers-at2) → length {A = ℕ} (take (start-2 c .args .rows) (replicate 8 0)) ≡ start-2 c .args .rows
