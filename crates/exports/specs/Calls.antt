@@ -35,7 +35,7 @@ allocating count limits forces =
     let allocation = allocated count limits in
     answered (leb 8 (length forces)) (allocation .refusal) 0 (atFront (allocation .forces) forces) forces
 
--- rule 13.3: 1 is the old kind of file, and any other number the new one
+-- rule 13.5: 1 is the old kind of file, and any other number the new one
 unfoldable pub kindOf : ℕ → FileKind
 kindOf number = cond (eqb number 1) Old New
 
