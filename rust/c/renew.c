@@ -36,8 +36,12 @@ int main(void)
     size_t size = 0;
     unsigned joint = 0;
     size_t length = fread(input, 1, sizeof input, stdin);
-    if (ferror(stdin) || length > JINQEWAN_LONGEST_INPUT) {
-        fprintf(stderr, "renew: the input can't be read, or has more than %d bytes; nothing is written\n", JINQEWAN_LONGEST_INPUT);
+    if (ferror(stdin)) {
+        fprintf(stderr, "renew: the input could not be read to its end; nothing is written\n");
+        return 1;
+    }
+    if (length > JINQEWAN_LONGEST_INPUT) {
+        fprintf(stderr, "renew: the input is longer than %d bytes; nothing is written\n", JINQEWAN_LONGEST_INPUT);
         return 1;
     }
     uint32_t answer = renew(length, &size, &joint);

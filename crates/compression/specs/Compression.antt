@@ -36,7 +36,7 @@ IsWebBuckling b yc column = Greatest (λ (w : ℕ). 16 * column .clear * (w * w)
 unfoldable pub webBuckling : (b yc : ℕ) → Column → ℕ
 webBuckling b yc column = greatest 32 (λ (w : ℕ). 16 * column .clear * (w * w)) (bucklingLimit b yc column)
 
--- rule 5.9: near a column end the whole w is lowered, where 10×z is below 7×dc; 0.7×dc itself is never rounded
+-- rule 5.9: near a column end, where 10×z is below 7×dc, the whole w is reduced; 0.7×dc itself is never rounded
 unfoldable pub reducedNearEnd : (w : ℕ) → Column → ℕ
 reducedNearEnd w column =
     let z = column .«end_distance» in

@@ -41,11 +41,11 @@ pub fn resistances_of(
     ensures { λ r. ⌜ r ≡ resistancesOf steel column beam plate welds ⌝ }
 {
     let b = bearing_length(column, beam, plate, welds);
-    let whole_buckling = web_buckling(b, steel.column, column);
+    let unreduced = web_buckling(b, steel.column, column);
     Resistances {
         flange: beam_flange(steel.beam, beam),
         bearing: web_bearing(b, steel.column, column),
-        buckling: reduced_near_end(whole_buckling, column),
+        buckling: reduced_near_end(unreduced, column),
         panel: panel_shear(steel.column, column),
     }
 }
@@ -91,7 +91,7 @@ fn web_buckling(length: u64, strength: u64, column: Column) -> u64
     }
 }
 
-// A buckling force, lowered near an end of the column. z and 0.7×dc are compared ten times as large, so that neither is rounded.
+// A buckling force, reduced near an end of the column. z and 0.7×dc are compared ten times as large, so that neither is rounded.
 fn reduced_near_end(force: u64, column: Column) -> u64
     requires { ⌜ (force < 2 ^ 32) × ColumnInRange column ⌝ }
     ensures { λ r. ⌜ r ≡ reducedNearEnd force column ⌝ }

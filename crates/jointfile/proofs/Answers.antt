@@ -50,15 +50,15 @@ pub stored-count : (kind : FileKind) → Within (1 to fieldCount) (storedFieldCo
 stored-count Old = record { low = omega arith; high = omega arith }
 stored-count New = record { low = omega arith; high = omega arith }
 
--- the places after field 1 before any of them is read
-abbrev pub unread : List ℕ
-unread = replicate (fieldCount - 2) 0 ++ lacking Old
+-- the places after field 1 before any of them is read: zeros, and a number in the last
+abbrev pub unread : ℕ → List ℕ
+unread last = replicate (fieldCount - 2) 0 ++ (last ∷ [])
 
-pub lent-fields : (kind : FileKind) → length (take (otherFieldCount kind) unread) ≡ otherFieldCount kind
-lent-fields Old = refl
-lent-fields New = refl
+pub lent-fields : (kind : FileKind) (last : ℕ) → length (take (otherFieldCount kind) (unread last)) ≡ otherFieldCount kind
+lent-fields Old last = refl
+lent-fields New last = refl
 
-pub kept-fields : (kind : FileKind) → drop (otherFieldCount kind) unread ≡ lacking kind
+pub kept-fields : (kind : FileKind) → drop (otherFieldCount kind) (unread 15000) ≡ lacking kind
 kept-fields Old = refl
 kept-fields New = refl
 
@@ -126,9 +126,9 @@ module _ (fields : List ℕ) (rows : ℕ) (levers buffer : List ℕ) where
 module _ (joint : Joint) (buffer : List ℕ) where
   pub writing-refused : within rowCounts (joint .face .rows) ≡ false → turnedDown buffer 3 ≡ writing joint buffer
   unfolding writing
-  writing-refused e = sym (fails (wrote buffer (file New joint)) (turnedDown buffer) 3 _ _ e)
+  writing-refused e = sym (fails _ (turnedDown buffer) 3 _ _ e)
 
   pub writing-rows : within rowCounts (joint .face .rows) ≡ true
       → writingRows (fieldsOf joint) (joint .face .rows) (joint .face .levers) buffer ≡ writing joint buffer
   unfolding writing writingRows fieldsOf
-  writing-rows e = sym (holds (wrote buffer (file New joint)) (turnedDown buffer) 3 _ _ e)
+  writing-rows e = sym (holds _ (turnedDown buffer) 3 _ _ e)

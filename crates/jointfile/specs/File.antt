@@ -16,7 +16,7 @@ use Rattle.jointfile.specs.declared.FileKind.{FileKind}
 use Rattle.jointfile.specs.declared.FileKind.the-variants.{Old, New}
 use Rattle.jointfile.specs.declared.Reading.{Reading}
 
--- rule 9.7: the fields before the levers that a kind of file lacks, the last of them, as reading gives them: of the old kind z, as 15000
+-- rule 9.7: what reading gives for the last fields before the levers where a kind of file lacks them: of the old kind 15000, for z
 abbrev pub lacking : FileKind → List ℕ
 lacking Old = 15000 ∷ []
 lacking New = []

@@ -1,4 +1,4 @@
--- Writing a joint file (rules 9.2 and 9.6): the file of a joint, what is refused in which order, and what the buffer holds afterwards.
+-- Writing a joint file (rules 9.2, 9.6 and 9.7): the file of a joint, what is refused in which order, and what the buffer holds afterwards.
 -- Assumes nothing.
 use Prim.Native.Nat.{ℕ}
 use mathlib.Core.List.{List, [], _∷_, _++_}

@@ -70,7 +70,7 @@ fn no_joint(refusal: u32, end: usize) -> Reading
     }
 }
 
-// Reads what follows field 1. z is put first, and read over it where the file has it.
+// Reads what follows field 1. z gets its value for the old kind first; a file that has z is read over it.
 fn read_others(bytes: &[u8], kind: FileKind, rows: u32, from: usize) -> Reading
     requires { ⌜ (rows ≤ 8) × (from ≤ length (now bytes)) ⌝ }
     ensures { λ r. ⌜ r ≡ answer (length (now (bytes .entry))) (readOthers kind rows (drop from (now (bytes .entry)))) ⌝ }

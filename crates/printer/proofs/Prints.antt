@@ -13,12 +13,11 @@ use lib.Seq.{sets, drop-drop}
 use Rattle.jointfile.specs.File.{reading}
 use Rattle.jointfile.specs.declared.Reading.{Reading}
 use Rattle.jointfile.proofs.Places.{next-within}
-use Rattle.jointfile.specs.declared.FileKind.the-variants.{New}
 use Rattle.buffers.specs.Put.{atFront, Put}
 use Rattle.buffers.proofs.Puts.{sets-append, sets-front, put-length}
 use Rattle.items.specs.Digits.{digits}
 use Rattle.items.specs.Items.{spaced}
-use Rattle.printer.specs.Sheet.{linesOf, overLong, concatenated}
+use Rattle.printer.specs.Sheet.{sheetKind, linesOf, overLong, concatenated}
 use Rattle.printer.specs.Answers.{whole, noRoom, printing, readingLine}
 use Rattle.printer.proofs.Walk.{lines-none, lines-next, next-positive}
 
@@ -77,7 +76,7 @@ module _ {input : List ℕ} {from number size : ℕ} (head : WalkHead input from
   walk-done outside = omega (arith, head .left, ap length (none-left input from number outside))
 
   -- a turn: what was read of the bytes from `from` on
-  module _ (inside : from < length input) {answer : Reading} (is : answer ≡ reading New (drop from input)) where
+  module _ (inside : from < length input) {answer : Reading} (is : answer ≡ reading sheetKind (drop from input)) where
     some-left : 0 < length (drop from input)
     some-left = rw length-drop (omega (arith, inside))
 
@@ -90,8 +89,8 @@ module _ {input : List ℕ} {from number size : ℕ} (head : WalkHead input from
     lines-here =
         rw is
         (ap concatenated (lines-next number (drop from input) some-left)
-        ∙ ap (λ (bytes : List ℕ). readingLine number (reading New (drop from input)) ++ concatenated (linesOf (number + 1) bytes))
-        (drop-drop (reading New (drop from input) .next) from input))
+        ∙ ap (λ (bytes : List ℕ). readingLine number (reading sheetKind (drop from input)) ++ concatenated (linesOf (number + 1) bytes))
+        (drop-drop (reading sheetKind (drop from input) .next) from input))
 
     sizes-here : length (linesFrom input from number)
         ≡ length (readingLine number answer) + length (linesFrom input (from + answer .next) (number + 1))
@@ -105,7 +104,7 @@ module _ {input : List ℕ} {from number size : ℕ} (head : WalkHead input from
         → WalkHead input (from + answer .next) (number + 1) (size + taken)
     walk-on measured =
         record {
-          within = omega (arith, inside, next-within New (drop from input), length-drop from input, ap (λ (r : Reading). r .next) is);
+          within = omega (arith, inside, next-within sheetKind (drop from input), length-drop from input, ap (λ (r : Reading). r .next) is);
           count = omega (arith, head .count, walk-onward);
           left = omega (arith, head .left, sizes-here);
         }
@@ -127,7 +126,7 @@ module _ {input output₀ output : List ℕ} {from number at : ℕ} (head : PutH
         stores = sym (ap (sets output at) (none-left input from number outside)) ∙ head .writes;
       }
 
-  module _ (inside : from < length input) {answer : Reading} (is : answer ≡ reading New (drop from input)) where
+  module _ (inside : from < length input) {answer : Reading} (is : answer ≡ reading sheetKind (drop from input)) where
     pub put-room : length (allLines input) ≤ length output₀ → at + length (readingLine number answer) ≤ length output
     put-room room = omega (arith, head .holds, walk-size (head .walk) inside is)
 

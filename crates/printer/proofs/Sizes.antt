@@ -21,13 +21,12 @@ use Rattle.jointfile.specs.Write.{fileOf, file}
 use Rattle.numbers.proofs.Sizes.{groups-positive}
 use Rattle.numbers.proofs.RunCodec.{bytes-left}
 use Rattle.jointfile.proofs.RoundTrip.{Took, writes-again}
-use Rattle.jointfile.specs.declared.FileKind.the-variants.{New}
 use Rattle.items.specs.Digits.{digits}
 use Rattle.items.specs.Items.{spaced}
 use Rattle.line.specs.Longest.{mostLine}
 use Rattle.line.proofs.Lines.{refusal-short, outcome-short}
 use Rattle.work.specs.Work.{worked}
-use Rattle.printer.specs.Sheet.{mostInput, lineThen, linesWithin, linesOf, overLong, sheetLines, concatenated, sheetOf}
+use Rattle.printer.specs.Sheet.{sheetKind, mostInput, lineThen, linesWithin, linesOf, overLong, sheetLines, concatenated, sheetOf}
 use Rattle.printer.specs.Answers.{whole, printing, mostPrinted, mostSheet}
 use Rattle.buffers.specs.Put.{atFront}
 
@@ -40,12 +39,12 @@ some-row : (rows : ℕ) → within rowCounts rows ≡ true → 1 ≤ rows
 some-row rows count = leb-true 1 rows (and-eq-true-iff (leb 1 rows) (leb rows 8) .0 count .0)
 
 -- the fields and a lever take a byte each, or more
-file-size : (bytes : List ℕ) (joint : Joint) (left : List ℕ) → Took New bytes joint left → length left + leastFile ≤ length bytes
+file-size : (bytes : List ℕ) (joint : Joint) (left : List ℕ) → Took sheetKind bytes joint left → length left + leastFile ≤ length bytes
 unfolding fileOf fieldsOf
 file-size bytes joint left took =
     let rows = joint .face .rows in
     let levers = joint .face .levers in
-    rw (← took .form, length-append (file New joint) left)
+    rw (← took .form, length-append (file sheetKind joint) left)
     (omega (
       arith,
       storedAll-long (fieldsOf joint ++ take rows levers),
@@ -60,14 +59,14 @@ lines-few : (most number : ℕ) (bytes : List ℕ) → Bytes bytes
 unfolding linesWithin
 lines-few zero number bytes all = omega arith
 lines-few (suc most) number [] all = omega arith
-lines-few (suc most) number (byte ∷ bytes) all = go (lines-few most (number + 1)) (readJoint New (byte ∷ bytes)) refl
+lines-few (suc most) number (byte ∷ bytes) all = go (lines-few most (number + 1)) (readJoint sheetKind (byte ∷ bytes)) refl
   where
     go : ((left : List ℕ) → Bytes left → leastFile * length (linesWithin most (number + 1) left) ≤ length left + (leastFile - 1))
-        → (parse : Parse Joint) → readJoint New (byte ∷ bytes) ≡ parse
+        → (parse : Parse Joint) → readJoint sheetKind (byte ∷ bytes) ≡ parse
         → leastFile * length (lineThen (linesWithin most (number + 1)) number parse) ≤ length (byte ∷ bytes) + (leastFile - 1)
     go few (got joint left) e =
-        let took = writes-again New (byte ∷ bytes) joint left all e in
-        omega (arith, few left (bytes-left (file New joint) left (byte ∷ bytes) (took .form) all), file-size (byte ∷ bytes) joint left took)
+        let took = writes-again sheetKind (byte ∷ bytes) joint left all e in
+        omega (arith, few left (bytes-left (file sheetKind joint) left (byte ∷ bytes) (took .form) all), file-size (byte ∷ bytes) joint left took)
     go few (refused r) e = omega arith
 
 lines-short : (most number : ℕ) (bytes : List ℕ)
@@ -75,7 +74,7 @@ lines-short : (most number : ℕ) (bytes : List ℕ)
 unfolding linesWithin concatenated
 lines-short zero number bytes = omega arith
 lines-short (suc most) number [] = omega arith
-lines-short (suc most) number (byte ∷ bytes) = go (lines-short most (number + 1)) (readJoint New (byte ∷ bytes))
+lines-short (suc most) number (byte ∷ bytes) = go (lines-short most (number + 1)) (readJoint sheetKind (byte ∷ bytes))
   where
     go : ((left : List ℕ)
         → length (concatenated (linesWithin most (number + 1) left)) ≤ mostLine * length (linesWithin most (number + 1) left))

@@ -14,9 +14,8 @@ use Rattle.jointfile.specs.File.{readJoint, answer, reading, leftOf, restOf}
 use Rattle.jointfile.specs.declared.Reading.{Reading}
 use Rattle.jointfile.proofs.Ends.{joint-shorter}
 use Rattle.jointfile.proofs.Places.{next-left, read-taken, read-refused}
-use Rattle.jointfile.specs.declared.FileKind.the-variants.{New}
 use Rattle.line.specs.Line.{refusalLine}
-use Rattle.printer.specs.Sheet.{Line, mostInput, jointLine, lineThen, linesWithin, linesOf, overLong, sheetLines}
+use Rattle.printer.specs.Sheet.{sheetKind, Line, mostInput, jointLine, lineThen, linesWithin, linesOf, overLong, sheetLines}
 use Rattle.printer.specs.Answers.{readingLine}
 
 -- any bound that the count of bytes keeps gives the same lines
@@ -30,14 +29,14 @@ lines-same (suc most) (suc most′) number [] h h′ = refl
 lines-same zero most′ number (byte ∷ bytes) h h′ = absurd (omega arith)
 lines-same (suc most) zero number (byte ∷ bytes) h h′ = absurd (omega arith)
 lines-same (suc most) (suc most′) number (byte ∷ bytes) h h′ =
-    go (lines-same most most′ (number + 1)) (readJoint New (byte ∷ bytes)) refl
+    go (lines-same most most′ (number + 1)) (readJoint sheetKind (byte ∷ bytes)) refl
   where
     go : ((left : List ℕ) → length left ≤ most → length left ≤ most′
         → linesWithin most (number + 1) left ≡ linesWithin most′ (number + 1) left)
-        → (parse : Parse Joint) → readJoint New (byte ∷ bytes) ≡ parse
+        → (parse : Parse Joint) → readJoint sheetKind (byte ∷ bytes) ≡ parse
         → lineThen (linesWithin most (number + 1)) number parse ≡ lineThen (linesWithin most′ (number + 1)) number parse
     go same (got joint left) e =
-        let shorter = joint-shorter New (byte ∷ bytes) joint left e in
+        let shorter = joint-shorter sheetKind (byte ∷ bytes) joint left e in
         rw (same left (omega arith) (omega arith))
     go same (refused r) e = refl
 
@@ -46,10 +45,10 @@ unfolding linesWithin
 lines-none number = refl
 
 pub lines-next : (number : ℕ) (bytes : List ℕ) → 0 < length bytes
-    → linesOf number bytes ≡ readingLine number (reading New bytes) ∷ linesOf (number + 1) (drop (reading New bytes .next) bytes)
+    → linesOf number bytes ≡ readingLine number (reading sheetKind bytes) ∷ linesOf (number + 1) (drop (reading sheetKind bytes .next) bytes)
 unfolding linesWithin readingLine
 lines-next number [] some = absurd (omega arith)
-lines-next number (byte ∷ bytes) some = go (eqb (reading New input .refusal) 0) refl
+lines-next number (byte ∷ bytes) some = go (eqb (reading sheetKind input .refusal) 0) refl
   where
     input : List ℕ
     input = byte ∷ bytes
@@ -57,29 +56,29 @@ lines-next number (byte ∷ bytes) some = go (eqb (reading New input .refusal) 0
     others : List ℕ → List Line
     others = linesWithin (length bytes) (number + 1)
 
-    go : (t : Bool) → eqb (reading New input .refusal) 0 ≡ t
-        → lineThen others number (readJoint New input)
-        ≡ readingLine number (reading New input) ∷ linesOf (number + 1) (drop (reading New input .next) input)
+    go : (t : Bool) → eqb (reading sheetKind input .refusal) 0 ≡ t
+        → lineThen others number (readJoint sheetKind input)
+        ≡ readingLine number (reading sheetKind input) ∷ linesOf (number + 1) (drop (reading sheetKind input .next) input)
     go true e =
-        let taken = read-taken New input (eqb-true (reading New input .refusal) 0 e) in
-        let joint = reading New input .joint in
-        let left = restOf New input in
-        let shorter = joint-shorter New input joint left taken in
+        let taken = read-taken sheetKind input (eqb-true (reading sheetKind input .refusal) 0 e) in
+        let joint = reading sheetKind input .joint in
+        let left = restOf sheetKind input in
+        let shorter = joint-shorter sheetKind input joint left taken in
         ap (lineThen others number) taken
-        ∙ rw (next-left New input, e)
+        ∙ rw (next-left sheetKind input, e)
         (ap (λ (lines : List Line). jointLine number joint ∷ lines)
         (lines-same (length bytes) (length left) (number + 1) left (omega arith) (omega arith)))
     go false e =
-        let turned = read-refused New input (eqb-false (reading New input .refusal) 0 e) in
-        let none : drop (reading New input .next) input ≡ [] = next-left New input ∙ ap leftOf turned in
+        let turned = read-refused sheetKind input (eqb-false (reading sheetKind input .refusal) 0 e) in
+        let none : drop (reading sheetKind input .next) input ≡ [] = next-left sheetKind input ∙ ap leftOf turned in
         ap (lineThen others number) turned ∙ rw (none, e)
 
 -- a place after what was read
-pub next-positive : (bytes : List ℕ) → 0 < length bytes → 0 < reading New bytes .next
-next-positive bytes some = go (readJoint New bytes) refl
+pub next-positive : (bytes : List ℕ) → 0 < length bytes → 0 < reading sheetKind bytes .next
+next-positive bytes some = go (readJoint sheetKind bytes) refl
   where
-    go : (parse : Parse Joint) → readJoint New bytes ≡ parse → 0 < answer (length bytes) parse .next
-    go (got joint left) e = let shorter = joint-shorter New bytes joint left e in omega arith
+    go : (parse : Parse Joint) → readJoint sheetKind bytes ≡ parse → 0 < answer (length bytes) parse .next
+    go (got joint left) e = let shorter = joint-shorter sheetKind bytes joint left e in omega arith
     go (refused r) e = some
 
 -- ---- the line of what was read, case by case

@@ -7,6 +7,7 @@ use lib.ListN.{length}
 use Rattle.joint.specs.declared.Joint.{Joint}
 use Rattle.numbers.specs.Parse.{Parse, got, refused}
 use Rattle.jointfile.specs.File.{readJoint}
+use Rattle.jointfile.specs.declared.FileKind.{FileKind}
 use Rattle.jointfile.specs.declared.FileKind.the-variants.{New}
 use Rattle.items.specs.Digits.{decimal}
 use Rattle.items.specs.Items.{letter}
@@ -15,6 +16,10 @@ use Rattle.work.specs.Work.{worked}
 
 abbrev pub Line : Type 0
 Line = List ℕ
+
+-- rule 9.7: it reads files of the new kind
+abbrev pub sheetKind : FileKind
+sheetKind = New
 
 -- what the sheet prints of a joint that was read
 abbrev pub jointLine : (number : ℕ) → Joint → Line
@@ -29,7 +34,7 @@ lineThen others number (refused r) = refusalLine number (r ∷ []) ∷ []
 unfoldable pub linesWithin : (most number : ℕ) (bytes : List ℕ) → List Line
 linesWithin zero number bytes = []
 linesWithin (suc most) number [] = []
-linesWithin (suc most) number (byte ∷ bytes) = lineThen (linesWithin most (number + 1)) number (readJoint New (byte ∷ bytes))
+linesWithin (suc most) number (byte ∷ bytes) = lineThen (linesWithin most (number + 1)) number (readJoint sheetKind (byte ∷ bytes))
 
 -- All of them: no file is empty, so there are no more lines than bytes.
 abbrev pub linesOf : (number : ℕ) (bytes : List ℕ) → List Line

@@ -86,7 +86,7 @@ fn count_worked(joint: &Joint, worked: &Result<FaceResult, WorkRefusal>, tally: 
             if let WorkRefusal::Field(field) = refusal {
                 tally.count_field(*field);
             }
-            return tally.count(refusal_kind(refusal));
+            return tally.count(refusal_case(refusal));
         }
     };
     tally.count("work: worked");
@@ -114,9 +114,9 @@ fn count_column_end(column: &Column, check: Check, tally: &mut Tally) {
     let end = 10 * column.end_distance;
     let edge = 7 * column.clear;
     if end < edge {
-        tally.count("work: buckling lowered near the column end");
+        tally.count("work: buckling reduced near the column end");
         if check == Check::Buckling {
-            tally.count("work: governed by lowered buckling");
+            tally.count("work: governed by reduced buckling");
         }
         if edge - end <= 10 {
             tally.count("work: column end one step nearer than 0.7dc");
@@ -151,7 +151,7 @@ fn count_verdicts(verdicts: &Verdicts, tally: &mut Tally) {
     });
 }
 
-fn refusal_kind(refusal: &WorkRefusal) -> &'static str {
+fn refusal_case(refusal: &WorkRefusal) -> &'static str {
     match refusal {
         WorkRefusal::Field(_) => "work: refusal 10",
         WorkRefusal::LeverOrder => "work: refusal 11",
@@ -164,7 +164,7 @@ fn refusal_kind(refusal: &WorkRefusal) -> &'static str {
 
 // ---- Write and Read
 
-/// Writes the joint to a buffer of some length, and reads back what is there.
+/// Writes the joint to a buffer of some length, and reads what is there as either kind.
 pub fn compare_file(
     joint: &Joint,
     random: &mut Random,
@@ -176,22 +176,22 @@ pub fn compare_file(
     let mut length = MARK_PLACE;
     let answer = proved::write(&fields, &mut buffer, &mut length);
     let mut expected = vec![MARK_8; size];
-    let (number, expected_length, kind) = match reference::write(joint, &mut expected) {
+    let (number, expected_length, case) = match reference::write(joint, &mut expected) {
         Ok(length) => (0, length, "write: file"),
-        Err(refusal) => (refusal as u32, MARK_PLACE, write_kind(refusal)),
+        Err(refusal) => (refusal as u32, MARK_PLACE, write_case(refusal)),
     };
-    tally.count(kind);
+    tally.count(case);
     same(
         "write",
         &(fields, size),
         (answer, length, &buffer),
         (number, expected_length, &expected),
     )?;
-    let kind = random_kind(random);
-    compare_read(&buffer, kind_number(random, kind), tally)
+    let told = random_kind(random);
+    compare_read(&buffer, kind_number(random, told), tally)
 }
 
-fn write_kind(refusal: reference::WriteRefusal) -> &'static str {
+fn write_case(refusal: reference::WriteRefusal) -> &'static str {
     match refusal {
         reference::WriteRefusal::RowCount => "write: refusal 3",
         reference::WriteRefusal::ShortBuffer => "write: refusal 5",

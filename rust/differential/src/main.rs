@@ -51,12 +51,15 @@ fn run(seed: u64, joints: u64, tally: &mut Tally) -> Result<(), Difference> {
     for _ in 0..joints / 4 {
         let kind = random_kind(&mut random);
         let bytes = stream(&mut random, kind);
-        // now and then under the number of the other kind
+        // now and then as a kind that is drawn again
         let told = if random.one_in(16) {
             random_kind(&mut random)
         } else {
             kind
         };
+        if told != kind {
+            tally.count("read: files of the other kind");
+        }
         compare_stream(&bytes, told, &mut random, tally)?;
     }
     for _ in 0..joints / 100 {

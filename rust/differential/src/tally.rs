@@ -1,10 +1,10 @@
-//! How often each kind of input and answer occurred.
+//! How often each case of input and answer occurred.
 
 use std::collections::BTreeMap;
 use std::fmt;
 
 /// What a run of full size has to reach.
-const KINDS: [&str; 55] = [
+const CASES: [&str; 56] = [
     "allocate: refusal 3",
     "allocate: refusal 7",
     "allocate: refusal 8",
@@ -13,6 +13,7 @@ const KINDS: [&str; 55] = [
     "read, old kind: refusal 1",
     "read, old kind: refusal 2",
     "read, old kind: refusal 3",
+    "read: files of the other kind",
     "read: joint",
     "read: refusal 1",
     "read: refusal 2",
@@ -33,7 +34,7 @@ const KINDS: [&str; 55] = [
     "work: bending passes",
     "work: bolts fail",
     "work: bolts pass",
-    "work: buckling lowered near the column end",
+    "work: buckling reduced near the column end",
     "work: column end at 0.7dc",
     "work: column end one step nearer than 0.7dc",
     "work: column end one step past 0.7dc",
@@ -45,7 +46,7 @@ const KINDS: [&str; 55] = [
     "work: governed by F",
     "work: governed by K",
     "work: governed by S",
-    "work: governed by lowered buckling",
+    "work: governed by reduced buckling",
     "work: limited by the cap",
     "work: refusal 10",
     "work: refusal 11",
@@ -70,8 +71,8 @@ pub struct Tally {
 }
 
 impl Tally {
-    pub fn count(&mut self, kind: &'static str) {
-        *self.counts.entry(kind).or_default() += 1;
+    pub fn count(&mut self, case: &'static str) {
+        *self.counts.entry(case).or_default() += 1;
     }
 
     /// A worked joint's rows.
@@ -86,24 +87,24 @@ impl Tally {
 
     /// What was not reached.
     pub fn missed(&self) -> Vec<String> {
-        let kinds = KINDS
+        let cases = CASES
             .iter()
-            .filter(|kind| !self.counts.contains_key(**kind))
-            .map(|kind| kind.to_string());
+            .filter(|case| !self.counts.contains_key(**case))
+            .map(|case| case.to_string());
         let fields = (1..=38)
             .filter(|field| !self.fields.contains_key(field))
             .map(|field| format!("field {field}"));
         let rows = (1..=8)
             .filter(|rows| !self.rows.contains_key(rows))
             .map(|rows| format!("{rows} rows"));
-        kinds.chain(fields).chain(rows).collect()
+        cases.chain(fields).chain(rows).collect()
     }
 }
 
 impl fmt::Display for Tally {
     fn fmt(&self, out: &mut fmt::Formatter) -> fmt::Result {
-        for (kind, count) in &self.counts {
-            writeln!(out, "{count:>9}  {kind}")?;
+        for (case, count) in &self.counts {
+            writeln!(out, "{count:>9}  {case}")?;
         }
         let listed = |counts: &BTreeMap<u32, u64>| {
             let items: Vec<String> = counts

@@ -17,7 +17,7 @@ pub fn governing(column: &Column, face: &Face, steel: &SteelStrengths) -> (Check
     let flange = 7 * steel.beam * u64::from(beam.flange) * u64::from(beam.width) / 500;
     let bearing = bearing_length * web * steel.column / 100;
     let far = web_buckling(bearing_length, column.clear, column.web, steel.column);
-    let buckling = lowered_near_end(far, column.end_distance, column.clear);
+    let buckling = reduced_near_end(far, column.end_distance, column.clear);
     let panel = 3 * steel.column * web * u64::from(column.depth) / 500;
 
     let mut least = (Check::Flange, flange);
@@ -40,7 +40,7 @@ fn web_buckling(bearing_length: u64, clear: u32, web: u32, strength: u64) -> u64
 }
 
 /// w, or w (10z + 7dc) ÷ (14dc) where z is below 0.7dc.
-fn lowered_near_end(buckling: u64, end_distance: u32, clear: u32) -> u64 {
+fn reduced_near_end(buckling: u64, end_distance: u32, clear: u32) -> u64 {
     let end = 10 * u64::from(end_distance);
     let reach = 7 * u64::from(clear);
     if end < reach {
@@ -61,20 +61,20 @@ mod tests {
 
     #[test]
     fn checked_joint_f_near_the_column_end() {
-        let lowered = |end_distance| lowered_near_end(407_706, end_distance, 4765);
-        assert_eq!(lowered(15000), 407_706);
-        assert_eq!(lowered(3336), 407_706);
-        assert_eq!(lowered(3335), 407_675);
+        let reduced = |end_distance| reduced_near_end(407_706, end_distance, 4765);
+        assert_eq!(reduced(15000), 407_706);
+        assert_eq!(reduced(3336), 407_706);
+        assert_eq!(reduced(3335), 407_675);
         // 407706 × 33365 ÷ 66710 = 203914.11..
-        assert_eq!(lowered(1), 203_914);
+        assert_eq!(reduced(1), 203_914);
     }
 
     /// 0.7dc is 3500, 3500.7 and 3506.3 here: rounded down or to the nearest it would be a tenth off.
     #[test]
     fn the_edge_is_not_rounded() {
         for (clear, least_far) in [(5000, 3500), (5001, 3501), (5009, 3507)] {
-            assert_eq!(lowered_near_end(700_000, least_far, clear), 700_000);
-            assert!(lowered_near_end(700_000, least_far - 1, clear) < 700_000);
+            assert_eq!(reduced_near_end(700_000, least_far, clear), 700_000);
+            assert!(reduced_near_end(700_000, least_far - 1, clear) < 700_000);
         }
     }
 

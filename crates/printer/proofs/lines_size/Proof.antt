@@ -10,7 +10,7 @@ use lib.ListN.{length, drop, length-drop}
 use lib.Seq.{take-all}
 use Rattle.numbers.specs.Number.{Bytes}
 use Rattle.jointfile.specs.File.{reading}
-use Rattle.jointfile.specs.declared.FileKind.the-variants.{New}
+use Rattle.printer.specs.Sheet.{sheetKind}
 use Rattle.printer.proofs.Prints.{WalkHead, walk-start, walk-on, walk-onward, walk-size, walk-done}
 use Rattle.printer.proofs.Sizes.{lines-size}
 use Rattle.printer.proofs.lines_size.Statement.{statement}
@@ -44,11 +44,11 @@ was-read c = c .before .before
 lent-bytes : (c : tie.At-loop Inv-loop μ-loop) → Bytes (lent c)
 lent-bytes c = λ k. c .before .shared-slice-known .given k .fits
 
-read-here : (c : tie.After-read Inv-loop μ-loop) → c .read .result ≡ reading New (drop (head c .loop .from) (lent (head c)))
+read-here : (c : tie.After-read Inv-loop μ-loop) → c .read .result ≡ reading sheetKind (drop (head c .loop .from) (lent (head c)))
 read-here c =
     let input = lent (head c) in
     let from = head c .loop .from in
-    c .read .ensures ∙ ap (reading New) (take-all (length input - from) (drop from input) (omega (arith, length-drop from input)))
+    c .read .ensures ∙ ap (reading sheetKind) (take-all (length input - from) (drop from input) (omega (arith, length-drop from input)))
 
 on : (c : tie.After-struct-known Inv-loop μ-loop)
     → let at-loop = head (was-read c) in

@@ -9,7 +9,7 @@ use denote.Ref.{now}
 use lib.ListN.{length, drop, length-drop}
 use lib.Seq.{take-all}
 use Rattle.jointfile.specs.File.{reading}
-use Rattle.jointfile.specs.declared.FileKind.the-variants.{New}
+use Rattle.printer.specs.Sheet.{sheetKind}
 use Rattle.printer.proofs.Prints.{PutHead, put-start, put-room, put-on, put-done, walk-onward}
 use Rattle.printer.proofs.put_joints.Statement.{statement}
 use Rattle.printer.proofs.put_joints.Tie as tie
@@ -42,11 +42,11 @@ was-put c = c .before .before .before
 
 -- ---- what was read and put
 
-read-here : (c : tie.After-read Inv-loop μ-loop) → c .read .result ≡ reading New (drop (head c .loop .from) (lent (head c)))
+read-here : (c : tie.After-read Inv-loop μ-loop) → c .read .result ≡ reading sheetKind (drop (head c .loop .from) (lent (head c)))
 read-here c =
     let input = lent (head c) in
     let from = head c .loop .from in
-    c .read .ensures ∙ ap (reading New) (take-all (length input - from) (drop from input) (omega (arith, length-drop from input)))
+    c .read .ensures ∙ ap (reading sheetKind) (take-all (length input - from) (drop from input) (omega (arith, length-drop from input)))
 
 on : (c : tie.After-put-line Inv-loop μ-loop)
     → let at-loop = head (was-read c) in
