@@ -78,7 +78,7 @@ weldChecks welds shearRows =
 abbrev pub withinBothSigns : ℤ → Bool
 withinBothSigns force = leZ (negℤ (pos (loads .high))) force && leZ force (pos (loads .high))
 
--- 27 to 30
+-- 27 to 30: z is the column's, and comes after the loads
 abbrev pub loadChecks : Loads → (endDistance : ℕ) → List Check
 loadChecks forces endDistance =
     (27, withinBothSigns (forces .axial))

@@ -285,7 +285,7 @@ fn check_welds(welds: Welds, shear_rows: u32) -> FieldCheck
     ranged(length, 26, shear_rows, 0, 8)
 }
 
-// Fields 27 to 30: the loads, and z.
+// Fields 27 to 30: the loads, and the column's z, which comes after them.
 fn check_loads(loads: Loads, end_distance: u32) -> FieldCheck
     ensures { λ r. ⌜ r ≡ foundBy (loadChecks loads «end_distance») ⌝ }
 {

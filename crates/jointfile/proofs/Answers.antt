@@ -21,7 +21,7 @@ use Rattle.numbers.specs.declared.number.Number.the-variants.{Value, Refused}
 use Rattle.numbers.proofs.Sizes.{storedAll-append}
 use Rattle.fields.specs.Fields.{fieldCount, jointOf, fieldsOf}
 use Rattle.jointfile.specs.File.{lacking, storedFieldCount, otherFieldCount, readOthers, readJoint, answer}
-use Rattle.jointfile.specs.Write.{fileOf, file, wrote, turnedDown, roomCheck, writing}
+use Rattle.jointfile.specs.Write.{fileOf, wrote, turnedDown, roomCheck, writing}
 use Rattle.jointfile.specs.Answers.{writingIfRoom, writingRows}
 use Rattle.jointfile.specs.declared.FileKind.{FileKind}
 use Rattle.jointfile.specs.declared.FileKind.the-variants.{Old, New}

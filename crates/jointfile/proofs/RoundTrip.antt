@@ -25,7 +25,7 @@ use Rattle.numbers.proofs.Parsing.{then-got}
 use Rattle.numbers.proofs.RunCodec.{read-storedAll, bytes-left, TakenAll, taken-all}
 use Rattle.numbers.proofs.Codec.{read-stored, stored-read, number-small}
 use Rattle.numbers.proofs.Sizes.{storedAll-append}
-use Rattle.fields.specs.Fields.{fieldCount, jointOf, fieldsOf}
+use Rattle.fields.specs.Fields.{jointOf, fieldsOf}
 use Rattle.fields.proofs.Order.{fields-joint, joint-fields}
 use Rattle.jointfile.specs.File.{lacking, storedFieldCount, otherFieldCount, readOthers, readJoint}
 use Rattle.jointfile.specs.Write.{fileOf, file, writing}
