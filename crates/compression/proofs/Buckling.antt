@@ -1,5 +1,5 @@
--- Web buckling is the greatest w with 16×dc×w² at most its limit, and the only such number; the integer root of the limit over 16×dc is
--- that number. Assumes nothing.
+-- Web buckling, before a near column end reduces it, is the greatest w with 16×dc×w² at most its limit, and the only such number; the
+-- integer root of the limit over 16×dc is that number. Assumes nothing.
 use mathlib.Core.Path.{_≡_, refl, sym, ap, _∙_}
 use mathlib.Core.Bool.{Bool, true, false, cond}
 use Prim.Native.Nat.{ℕ, _*_, _/_, _^_, _≤_, _<_, zero-le}

@@ -28,7 +28,7 @@ webBearing b yc column = b * column .web * yc / 100
 unfoldable pub bucklingLimit : (b yc : ℕ) → Column → ℕ
 bucklingLimit b yc column = 275 * b * yc * column .web ^ 4
 
--- rule 5.4: the greatest w with 16×dc×w² at most that is web buckling
+-- rule 5.4: the greatest w with 16×dc×w² at most that is web buckling, but for a near column end (`reducedNearEnd`)
 abbrev pub IsWebBuckling : (b yc : ℕ) → Column → ℕ → Type 0
 IsWebBuckling b yc column = Greatest (λ (w : ℕ). 16 * column .clear * (w * w) ≤ bucklingLimit b yc column)
 

@@ -20,7 +20,8 @@ use Rattle.numbers.specs.Answers.{NumberRead}
 use Rattle.numbers.specs.declared.number.Number.the-variants.{Value, Refused}
 use Rattle.numbers.proofs.Sizes.{storedAll-append}
 use Rattle.fields.specs.Fields.{fieldCount, jointOf, fieldsOf}
-use Rattle.jointfile.specs.File.{lacking, storedFieldCount, otherFieldCount, readOthers, readJoint, answer}
+use Rattle.jointfile.specs.File.{untoldEndDistance, lacking, storedFieldCount, otherFieldCount}
+use Rattle.jointfile.specs.File.{readOthers, readJoint, answer}
 use Rattle.jointfile.specs.Write.{fileOf, wrote, turnedDown, roomCheck, writing}
 use Rattle.jointfile.specs.Answers.{writingIfRoom, writingRows}
 use Rattle.jointfile.specs.declared.FileKind.{FileKind}
@@ -58,7 +59,7 @@ pub lent-fields : (kind : FileKind) (last : ℕ) → length (take (otherFieldCou
 lent-fields Old last = refl
 lent-fields New last = refl
 
-pub kept-fields : (kind : FileKind) → drop (otherFieldCount kind) (unread 15000) ≡ lacking kind
+pub kept-fields : (kind : FileKind) → drop (otherFieldCount kind) (unread untoldEndDistance) ≡ lacking kind
 kept-fields Old = refl
 kept-fields New = refl
 

@@ -27,7 +27,8 @@ use Rattle.numbers.proofs.Codec.{read-stored, stored-read, number-small}
 use Rattle.numbers.proofs.Sizes.{storedAll-append}
 use Rattle.fields.specs.Fields.{jointOf, fieldsOf}
 use Rattle.fields.proofs.Order.{fields-joint, joint-fields}
-use Rattle.jointfile.specs.File.{lacking, storedFieldCount, otherFieldCount, readOthers, readJoint}
+use Rattle.jointfile.specs.File.{untoldEndDistance, lacking, storedFieldCount, otherFieldCount}
+use Rattle.jointfile.specs.File.{readOthers, readJoint}
 use Rattle.jointfile.specs.Write.{fileOf, file, writing}
 use Rattle.jointfile.specs.Answers.{Held, Writable, ToldBy}
 use Rattle.jointfile.specs.declared.FileKind.{FileKind}
@@ -129,8 +130,9 @@ told-new : (joint : Joint) → ToldBy New joint
 unfolding fieldsOf
 told-new joint = refl
 
--- Of the old kind: a joint whose z is 15000 is read from its new file less z.
-pub reads-old : (joint : Joint) → Held joint → Writable joint → joint .column .«end_distance» ≡ 15000 → (left : List ℕ)
+-- Of the old kind: a joint with the z that its files don't tell, 15000, is read from its new file less z.
+pub reads-old : (joint : Joint) → Held joint → Writable joint → joint .column .«end_distance» ≡ untoldEndDistance
+    → (left : List ℕ)
     → readJoint Old (file Old joint ++ left) ≡ got joint left
 unfolding fieldsOf
 reads-old joint held writable far = reads-back Old joint held writable (ap (λ (z : ℕ). z ∷ []) far)

@@ -16,9 +16,13 @@ use Rattle.jointfile.specs.declared.FileKind.{FileKind}
 use Rattle.jointfile.specs.declared.FileKind.the-variants.{Old, New}
 use Rattle.jointfile.specs.declared.Reading.{Reading}
 
--- rule 9.7: what reading gives for the last fields before the levers where a kind of file lacks them: of the old kind 15000, for z
+-- rule 9.7: z of a joint whose file doesn't tell it
+abbrev pub untoldEndDistance : ℕ
+untoldEndDistance = 15000
+
+-- and what reading gives, of either kind, for the last fields before the levers where the file lacks them
 abbrev pub lacking : FileKind → List ℕ
-lacking Old = 15000 ∷ []
+lacking Old = untoldEndDistance ∷ []
 lacking New = []
 
 -- how many fields stand before a file's levers, and how many of them after field 1

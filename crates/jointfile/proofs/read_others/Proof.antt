@@ -13,7 +13,7 @@ use Rattle.numbers.specs.Parse.{got}
 use Rattle.numbers.specs.Run.{readNumbers}
 use Rattle.numbers.specs.Answers.{runRefusal, runMeaning, endPlace}
 use Rattle.numbers.specs.declared.run.Run.{Run}
-use Rattle.jointfile.specs.File.{lacking, otherFieldCount, answer}
+use Rattle.jointfile.specs.File.{untoldEndDistance, lacking, otherFieldCount, answer}
 use Rattle.jointfile.proofs.Answers.{stored-count, unread, lent-fields, kept-fields, levers-eight}
 use Rattle.jointfile.proofs.Answers.{others-refused, levers-refused, levers-got, answer-got}
 use borrow.Author.Needs.{needs}
@@ -51,8 +51,8 @@ stored-known : (c : tie.After-stored-field-count) → Within (1 to fieldCount) (
 stored-known c = rw (c .stored-field-count .ensures) (stored-count (start c .args .kind))
 
 -- the places past them are as they were put
-kept : (c : tie.After-stored-field-count) → drop (c .stored-field-count .result - 1) (unread 15000) ≡ lacking (start c .args .kind)
-kept c = ap (λ (n : ℕ). drop (n - 1) (unread 15000)) (c .stored-field-count .ensures) ∙ kept-fields (start c .args .kind)
+kept : (c : tie.After-stored-field-count) → drop (c .stored-field-count .result - 1) (unread untoldEndDistance) ≡ lacking (start c .args .kind)
+kept c = ap (λ (n : ℕ). drop (n - 1) (unread untoldEndDistance)) (c .stored-field-count .ensures) ∙ kept-fields (start c .args .kind)
 
 -- the places lent for the other fields are as many as the file has
 others-run : (c : tie.After-numbers-at) (run : Run) → c .numbers-at .result ≡ run → let s = start (counted c) in
