@@ -1,7 +1,7 @@
--- The fields before the levers in file order (rules 2.1 and 9.2; of field 27, rule 9.1): the joint that has
+-- The fields before the levers in file order (rules 2.1, 9.2 and 9.8; of field 27, rule 9.1): the joint that has
 -- them, and those of a joint. Assumes nothing.
 use Prim.Native.Nat.{ℕ, _+_, _-_, _*_, _/_, _%_}
-use mathlib.Core.List.{List, [], _∷_}
+use mathlib.Core.List.{List, [], _∷_, map}
 use mathlib.Core.Bool.{cond}
 use lib.Dec.{eqb}
 use lib.IntN.{ℤ, pos, negsuc}
@@ -49,52 +49,98 @@ columnOf fields =
 abbrev pub boltsOf : List ℕ → Bolts
 boltsOf fields = record { class = field 3 fields; diameter = field 4 fields }
 
-abbrev pub beamOf : List ℕ → Beam
-beamOf fields =
+-- ---- A face, from the numbers of its part of the file: fields 1 and 2 come first, 6 and 7 stand together from the sixth's place on, and 14
+-- to 29 from the fourteenth's.
+
+abbrev pub beamOf : (numbers : List ℕ) (sixth fourteenth : ℕ) → Beam
+beamOf numbers sixth fourteenth =
     record {
-      grade = field 6 fields;
-      depth = field 14 fields;
-      width = field 15 fields;
-      flange = field 16 fields;
-      web = field 17 fields;
+      grade = getD numbers sixth 0;
+      depth = getD numbers fourteenth 0;
+      width = getD numbers (fourteenth + 1) 0;
+      flange = getD numbers (fourteenth + 2) 0;
+      web = getD numbers (fourteenth + 3) 0;
     }
 
-abbrev pub plateOf : List ℕ → Plate
-plateOf fields = record { grade = field 7 fields; width = field 18 fields; thickness = field 19 fields }
-
-abbrev pub layoutOf : List ℕ → Layout
-layoutOf fields = record { gauge = field 20 fields; edge = field 21 fields; alpha = field 22 fields }
-
-abbrev pub weldsOf : List ℕ → Welds
-weldsOf fields = record { flange = field 23 fields; web = field 24 fields; length = field 25 fields }
-
-abbrev pub loadsOf : List ℕ → Loads
-loadsOf fields = record { axial = axialOf (field 27 fields); shear = field 28 fields; moment = field 29 fields }
-
-abbrev pub faceOf : List ℕ → List ℕ → Face
-faceOf fields levers =
+abbrev pub plateOf : (numbers : List ℕ) (sixth fourteenth : ℕ) → Plate
+plateOf numbers sixth fourteenth =
     record {
-      rows = field 1 fields;
-      extended = field 2 fields;
-      beam = beamOf fields;
-      plate = plateOf fields;
-      layout = layoutOf fields;
-      welds = weldsOf fields;
-      «shear_rows» = field 26 fields;
-      loads = loadsOf fields;
+      grade = getD numbers (sixth + 1) 0;
+      width = getD numbers (fourteenth + 4) 0;
+      thickness = getD numbers (fourteenth + 5) 0;
+    }
+
+abbrev pub layoutOf : (numbers : List ℕ) (fourteenth : ℕ) → Layout
+layoutOf numbers fourteenth =
+    record {
+      gauge = getD numbers (fourteenth + 6) 0;
+      edge = getD numbers (fourteenth + 7) 0;
+      alpha = getD numbers (fourteenth + 8) 0;
+    }
+
+abbrev pub weldsOf : (numbers : List ℕ) (fourteenth : ℕ) → Welds
+weldsOf numbers fourteenth =
+    record {
+      flange = getD numbers (fourteenth + 9) 0;
+      web = getD numbers (fourteenth + 10) 0;
+      length = getD numbers (fourteenth + 11) 0;
+    }
+
+abbrev pub loadsOf : (numbers : List ℕ) (fourteenth : ℕ) → Loads
+loadsOf numbers fourteenth =
+    record {
+      axial = axialOf (getD numbers (fourteenth + 13) 0);
+      shear = getD numbers (fourteenth + 14) 0;
+      moment = getD numbers (fourteenth + 15) 0;
+    }
+
+abbrev pub faceOf : (numbers : List ℕ) (sixth fourteenth : ℕ) (levers : List ℕ) → Face
+faceOf numbers sixth fourteenth levers =
+    record {
+      rows = getD numbers 0 0;
+      extended = getD numbers 1 0;
+      beam = beamOf numbers sixth fourteenth;
+      plate = plateOf numbers sixth fourteenth;
+      layout = layoutOf numbers fourteenth;
+      welds = weldsOf numbers fourteenth;
+      «shear_rows» = getD numbers (fourteenth + 12) 0;
+      loads = loadsOf numbers fourteenth;
       levers = levers;
     }
 
--- A joint of its fields before the levers, in file order, and its eight levers.
-unfoldable pub jointOf : List ℕ → List ℕ → Joint
-jointOf fields levers = record { column = columnOf fields; bolts = boltsOf fields; face = faceOf fields levers }
+-- the first face among fields 1 to 30
+abbrev pub firstFaceOf : (fields levers : List ℕ) → Face
+firstFaceOf fields levers = faceOf fields 5 13 levers
 
--- The fields of a joint before the levers, in file order.
-unfoldable pub fieldsOf : Joint → List ℕ
-fieldsOf joint =
-    let column = joint .column in
-    let bolts = joint .bolts in
-    let face = joint .face in
+-- rule 9.8: the fields that a second face has of its own, and how many they are
+abbrev pub ownFields : List ℕ
+ownFields = 1 ∷ 2 ∷ 6 ∷ 7 ∷ 14 ∷ 15 ∷ 16 ∷ 17 ∷ 18 ∷ 19 ∷ 20 ∷ 21 ∷ 22 ∷ 23 ∷ 24 ∷ 25 ∷ 26 ∷ 27 ∷ 28 ∷ 29 ∷ []
+
+abbrev pub ownCount : ℕ
+ownCount = 20
+
+-- those of fields 1 to 30
+unfoldable pub ownOf : List ℕ → List ℕ
+ownOf fields = map (λ k. field k fields) ownFields
+
+-- the second face among them: 6 is the third of them and 14 the fifth
+abbrev pub secondFaceOf : (own levers : List ℕ) → Face
+secondFaceOf own levers = faceOf own 2 4 levers
+
+-- A joint of its fields before the levers, in file order, and its eight levers; and of what its second face has of its own, and the eight
+-- levers of that.
+unfoldable pub jointOf : (fields levers own otherLevers : List ℕ) → Joint
+jointOf fields levers own otherLevers =
+    record {
+      column = columnOf fields;
+      bolts = boltsOf fields;
+      face = firstFaceOf fields levers;
+      other = secondFaceOf own otherLevers;
+    }
+
+-- The fields of a column, its bolts and one face before the levers, in file order.
+unfoldable pub fieldsOf : Column → Bolts → Face → List ℕ
+fieldsOf column bolts face =
     let beam = face .beam in
     let plate = face .plate in
     let layout = face .layout in

@@ -1,5 +1,5 @@
-// A joint's fields before the levers, in file order: the joint that has them, and those of a joint. Field k stands at
-// place k - 1.
+// A joint's fields before the levers, in file order: the joint that has them, and those of a joint. Of the first face, with which the
+// column and the bolts stand, field k is at place k - 1. The second face has 1, 2, 6, 7 and 14 to 29 of its own, one after another.
 use joint::Beam;
 use joint::Bolts;
 use joint::Column;
@@ -13,10 +13,14 @@ ghost use mathlib.Core.Path.{_≡_};
 ghost use Prim.Native.Nat.{_≤_};
 ghost use lib.ListN.{length};
 ghost use Rattle.fields.specs.Fields.{fieldCount, axialOf, storedAxial, columnOf, boltsOf, beamOf, plateOf, layoutOf, weldsOf};
-ghost use Rattle.fields.specs.Fields.{loadsOf, faceOf, jointOf, fieldsOf};
+ghost use Rattle.fields.specs.Fields.{loadsOf, faceOf, jointOf, fieldsOf, ownOf};
+ghost use Rattle.fields.specs.Places.{PlacesWithin};
 
 // How many fields stand before the levers: 1 to 30.
 pub const FIELD_COUNT: usize = 30;
+
+// How many of them a second face has of its own: 1, 2, 6, 7 and 14 to 29.
+pub const OWN_COUNT: usize = 20;
 
 // The axial force that a number of the file stands for.
 fn axial_of(x: u32) -> i32
@@ -63,127 +67,162 @@ fn bolts_of(fields: &[u32]) -> Bolts
     }
 }
 
-fn beam_of(fields: &[u32]) -> Beam
-    requires { ⌜ fieldCount ≤ length (now fields) ⌝ }
-    ensures { λ r. ⌜ r ≡ beamOf (now (fields .entry)) ⌝ }
+// The parts of a face, from the numbers of its part of the file: field 6 at the sixth's place, field 14 at the fourteenth's.
+fn beam_of(numbers: &[u32], sixth: usize, fourteenth: usize) -> Beam
+    requires { ⌜ PlacesWithin (now numbers) sixth fourteenth ⌝ }
+    ensures { λ r. ⌜ r ≡ beamOf (now (numbers .entry)) sixth fourteenth ⌝ }
 {
     Beam {
-        grade: fields[5],
-        depth: fields[13],
-        width: fields[14],
-        flange: fields[15],
-        web: fields[16],
+        grade: numbers[sixth],
+        depth: numbers[fourteenth],
+        width: numbers[fourteenth + 1],
+        flange: numbers[fourteenth + 2],
+        web: numbers[fourteenth + 3],
     }
 }
 
-fn plate_of(fields: &[u32]) -> Plate
-    requires { ⌜ fieldCount ≤ length (now fields) ⌝ }
-    ensures { λ r. ⌜ r ≡ plateOf (now (fields .entry)) ⌝ }
+fn plate_of(numbers: &[u32], sixth: usize, fourteenth: usize) -> Plate
+    requires { ⌜ PlacesWithin (now numbers) sixth fourteenth ⌝ }
+    ensures { λ r. ⌜ r ≡ plateOf (now (numbers .entry)) sixth fourteenth ⌝ }
 {
     Plate {
-        grade: fields[6],
-        width: fields[17],
-        thickness: fields[18],
+        grade: numbers[sixth + 1],
+        width: numbers[fourteenth + 4],
+        thickness: numbers[fourteenth + 5],
     }
 }
 
-fn layout_of(fields: &[u32]) -> Layout
-    requires { ⌜ fieldCount ≤ length (now fields) ⌝ }
-    ensures { λ r. ⌜ r ≡ layoutOf (now (fields .entry)) ⌝ }
+fn layout_of(numbers: &[u32], fourteenth: usize) -> Layout
+    requires { ⌜ PlacesWithin (now numbers) 0 fourteenth ⌝ }
+    ensures { λ r. ⌜ r ≡ layoutOf (now (numbers .entry)) fourteenth ⌝ }
 {
     Layout {
-        gauge: fields[19],
-        edge: fields[20],
-        alpha: fields[21],
+        gauge: numbers[fourteenth + 6],
+        edge: numbers[fourteenth + 7],
+        alpha: numbers[fourteenth + 8],
     }
 }
 
-fn welds_of(fields: &[u32]) -> Welds
-    requires { ⌜ fieldCount ≤ length (now fields) ⌝ }
-    ensures { λ r. ⌜ r ≡ weldsOf (now (fields .entry)) ⌝ }
+fn welds_of(numbers: &[u32], fourteenth: usize) -> Welds
+    requires { ⌜ PlacesWithin (now numbers) 0 fourteenth ⌝ }
+    ensures { λ r. ⌜ r ≡ weldsOf (now (numbers .entry)) fourteenth ⌝ }
 {
     Welds {
-        flange: fields[22],
-        web: fields[23],
-        length: fields[24],
+        flange: numbers[fourteenth + 9],
+        web: numbers[fourteenth + 10],
+        length: numbers[fourteenth + 11],
     }
 }
 
-fn loads_of(fields: &[u32]) -> Loads
-    requires { ⌜ fieldCount ≤ length (now fields) ⌝ }
-    ensures { λ r. ⌜ r ≡ loadsOf (now (fields .entry)) ⌝ }
+fn loads_of(numbers: &[u32], fourteenth: usize) -> Loads
+    requires { ⌜ PlacesWithin (now numbers) 0 fourteenth ⌝ }
+    ensures { λ r. ⌜ r ≡ loadsOf (now (numbers .entry)) fourteenth ⌝ }
 {
     Loads {
-        axial: axial_of(fields[26]),
-        shear: fields[27],
-        moment: fields[28],
+        axial: axial_of(numbers[fourteenth + 13]),
+        shear: numbers[fourteenth + 14],
+        moment: numbers[fourteenth + 15],
     }
 }
 
-fn face_of(fields: &[u32], levers: [u32; 8]) -> Face
-    requires { ⌜ fieldCount ≤ length (now fields) ⌝ }
-    ensures { λ r. ⌜ r ≡ faceOf (now (fields .entry)) levers ⌝ }
+fn face_of(numbers: &[u32], sixth: usize, fourteenth: usize, levers: [u32; 8]) -> Face
+    requires { ⌜ PlacesWithin (now numbers) sixth fourteenth ⌝ }
+    ensures { λ r. ⌜ r ≡ faceOf (now (numbers .entry)) sixth fourteenth levers ⌝ }
 {
     Face {
-        rows: fields[0],
-        extended: fields[1],
-        beam: beam_of(fields),
-        plate: plate_of(fields),
-        layout: layout_of(fields),
-        welds: welds_of(fields),
-        shear_rows: fields[25],
-        loads: loads_of(fields),
+        rows: numbers[0],
+        extended: numbers[1],
+        beam: beam_of(numbers, sixth, fourteenth),
+        plate: plate_of(numbers, sixth, fourteenth),
+        layout: layout_of(numbers, fourteenth),
+        welds: welds_of(numbers, fourteenth),
+        shear_rows: numbers[fourteenth + 12],
+        loads: loads_of(numbers, fourteenth),
         levers,
     }
 }
 
-// The joint that has these fields before the levers, and these levers.
-pub fn joint_of(fields: [u32; FIELD_COUNT], levers: [u32; 8]) -> Joint
-    ensures { λ r. ⌜ r ≡ jointOf fields levers ⌝ }
+// The joint that has these fields before the levers, and these levers; its second face has these numbers of its own, and these levers.
+pub fn joint_of(
+    fields: [u32; FIELD_COUNT],
+    levers: [u32; 8],
+    own: [u32; OWN_COUNT],
+    other_levers: [u32; 8],
+) -> Joint
+    ensures { λ r. ⌜ r ≡ jointOf fields levers own «other_levers» ⌝ }
 {
     Joint {
         column: column_of(&fields),
         bolts: bolts_of(&fields),
-        face: face_of(&fields, levers),
+        face: face_of(&fields, 5, 13, levers),
+        other: face_of(&own, 2, 4, other_levers),
     }
 }
 
-// The fields of a joint before the levers.
-pub fn fields_of(joint: Joint) -> [u32; FIELD_COUNT]
-    ensures { λ r. ⌜ r ≡ fieldsOf joint ⌝ }
+// The fields of a column, its bolts and one face before the levers.
+pub fn fields_of(column: Column, bolts: Bolts, face: Face) -> [u32; FIELD_COUNT]
+    ensures { λ r. ⌜ r ≡ fieldsOf column bolts face ⌝ }
 {
-    let loads = joint.face.loads;
+    let loads = face.loads;
     let axial = stored_axial(loads.axial);
     [
-        joint.face.rows,
-        joint.face.extended,
-        joint.bolts.class,
-        joint.bolts.diameter,
-        joint.column.grade,
-        joint.face.beam.grade,
-        joint.face.plate.grade,
-        joint.column.depth,
-        joint.column.width,
-        joint.column.flange,
-        joint.column.web,
-        joint.column.radius,
-        joint.column.clear,
-        joint.face.beam.depth,
-        joint.face.beam.width,
-        joint.face.beam.flange,
-        joint.face.beam.web,
-        joint.face.plate.width,
-        joint.face.plate.thickness,
-        joint.face.layout.gauge,
-        joint.face.layout.edge,
-        joint.face.layout.alpha,
-        joint.face.welds.flange,
-        joint.face.welds.web,
-        joint.face.welds.length,
-        joint.face.shear_rows,
+        face.rows,
+        face.extended,
+        bolts.class,
+        bolts.diameter,
+        column.grade,
+        face.beam.grade,
+        face.plate.grade,
+        column.depth,
+        column.width,
+        column.flange,
+        column.web,
+        column.radius,
+        column.clear,
+        face.beam.depth,
+        face.beam.width,
+        face.beam.flange,
+        face.beam.web,
+        face.plate.width,
+        face.plate.thickness,
+        face.layout.gauge,
+        face.layout.edge,
+        face.layout.alpha,
+        face.welds.flange,
+        face.welds.web,
+        face.welds.length,
+        face.shear_rows,
         axial,
         loads.shear,
         loads.moment,
-        joint.column.end_distance,
+        column.end_distance,
+    ]
+}
+
+// Of fields 1 to 30 those that a second face has of its own.
+pub fn own_of(fields: [u32; FIELD_COUNT]) -> [u32; OWN_COUNT]
+    ensures { λ r. ⌜ r ≡ ownOf fields ⌝ }
+{
+    [
+        fields[0],
+        fields[1],
+        fields[5],
+        fields[6],
+        fields[13],
+        fields[14],
+        fields[15],
+        fields[16],
+        fields[17],
+        fields[18],
+        fields[19],
+        fields[20],
+        fields[21],
+        fields[22],
+        fields[23],
+        fields[24],
+        fields[25],
+        fields[26],
+        fields[27],
+        fields[28],
     ]
 }

@@ -103,7 +103,7 @@ fixedChecks column bolts face =
     ++ weldChecks (face .welds) (face .«shear_rows»)
     ++ loadChecks (face .loads) (column .«end_distance»)
 
--- all fields of a joint with one beam, which is on this face
+-- all fields of a column, its bolts and one face
 unfoldable pub fieldChecks : Column → Bolts → Face → List Check
 fieldChecks column bolts face = fixedChecks column bolts face ++ leverChecks (face .rows) 0 (face .levers)
 

@@ -6,7 +6,7 @@ use mathlib.Core.List.{List, [], _∷_}
 use lib.Dec.{ltb, eqb}
 use Rattle.arithmetic.specs.Range.{Range, _to_}
 
--- field 1, n
+-- field 1, n, of a face; that of a joint's first face may be marked (`Faces`)
 abbrev pub rowCounts : Range
 rowCounts = 1 to 8
 

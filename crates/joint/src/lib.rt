@@ -1,11 +1,12 @@
-// A joint: a beam on a column flange through an end plate. The fields are grouped by what a second beam on the other
-// face would share. Each comment gives the field's number (rule 2.1) and unit; lengths are in tenths of a millimetre.
+// A joint: a beam on a column flange through an end plate, or one on each of the column's two faces. Both share the column and the bolts;
+// what each has of its own is its face. Each comment gives the field's number (rule 2.1) and unit; lengths are in tenths of a millimetre.
 ghost use mathlib.Core.Path.{_≡_};
 ghost use mathlib.Core.Bool.{cond};
 ghost use Rattle.arithmetic.specs.Range.{within, _to_};
 ghost use Rattle.arithmetic.specs.Table.{oneOf};
 ghost use Rattle.joint.specs.Ranges.{rowCounts, grades};
 ghost use Rattle.joint.specs.Axial.{axialForce};
+ghost use Rattle.joint.specs.Faces.{twoFaced, firstRows, firstFace};
 ghost use Rattle.joint.specs.Fields.{fieldCheck, headChecks, gradeChecks, columnChecks, beamChecks};
 ghost use Rattle.joint.specs.Fields.{plateChecks, weldChecks, loadChecks, leverChecks};
 ghost use Rattle.joint.specs.Steps.{foundBy, Adds};
@@ -94,7 +95,7 @@ pub struct Loads {
 
 // One face of the column, with the beam on it.
 pub struct Face {
-    // 1: count of bolt rows n, 1 to 8
+    // 1: count of bolt rows n, 1 to 8; a joint's first face has it as stored, raised by 16 where a second face follows
     pub rows: u32,
     // 2: 1 if row 1 stands above the beam flange, else 0
     pub extended: u32,
@@ -113,6 +114,35 @@ pub struct Joint {
     pub column: Column,
     pub bolts: Bolts,
     pub face: Face,
+    // the second face, with fields 1, 2, 6, 7, 14 to 29 and levers of its own; all 0 where there is none
+    pub other: Face,
+}
+
+// Whether field 1 says that a second face follows.
+pub fn is_two_faced(count: u32) -> bool
+    ensures { λ r. ⌜ r ≡ twoFaced count ⌝ }
+{
+    (17 <= count) & (count <= 24)
+}
+
+// The rows of the first face by field 1.
+pub fn first_rows(count: u32) -> u32
+    ensures { λ r. ⌜ r ≡ firstRows count ⌝ }
+{
+    if is_two_faced(count) {
+        count - 16
+    } else {
+        count
+    }
+}
+
+// The first face with its rows, not marked.
+pub fn first_face(face: Face) -> Face
+    ensures { λ r. ⌜ r ≡ firstFace face ⌝ }
+{
+    let mut first = face;
+    first.rows = first_rows(face.rows);
+    first
 }
 
 // The axial force N by its sign, with its size in newtons.
@@ -138,7 +168,7 @@ pub enum FieldCheck {
     Outside(u32),
 }
 
-// Checks every field of a joint with one beam, in file order, and stops after the first part of them in which one fails.
+// Checks the fields of a column, its bolts and one face, in file order, and stops after the first part of them in which one fails.
 pub fn check_fields(column: Column, bolts: Bolts, face: Face) -> FieldCheck
     ensures { λ r. ⌜ r ≡ fieldCheck column bolts face ⌝ }
 {
@@ -174,7 +204,7 @@ pub fn check_fields(column: Column, bolts: Bolts, face: Face) -> FieldCheck
     check_levers(face.rows, levers)
 }
 
-// Refusal 3's question: whether a joint may have so many rows.
+// Refusal 3's question: whether a face may have so many rows.
 pub fn is_row_count(count: usize) -> bool
     ensures { λ r. ⌜ r ≡ within rowCounts count ⌝ }
 {

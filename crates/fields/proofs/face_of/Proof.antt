@@ -5,11 +5,11 @@ use borrow.Author.Needs.{needs}
 use Rattle.fields.proofs.face_of.Statement.{statement}
 use Rattle.fields.proofs.face_of.Tie as tie
 
-shared-slice-read-t4 : tie.Need-shared-slice-read-t4
-shared-slice-read-t4 c = search needs
-
 shared-slice-read-t6 : tie.Need-shared-slice-read-t6
 shared-slice-read-t6 c = search needs
+
+shared-slice-read-t8 : tie.Need-shared-slice-read-t8
+shared-slice-read-t8 c = search needs
 
 beam-of-requires : tie.Need-beam-of-requires
 beam-of-requires c κs = search needs
@@ -23,8 +23,14 @@ layout-of-requires c κs = search needs
 welds-of-requires : tie.Need-welds-of-requires
 welds-of-requires c κs = search needs
 
-shared-slice-read-t12 : tie.Need-shared-slice-read-t12
-shared-slice-read-t12 c = search needs
+add-t13 : tie.Need-add-t13
+add-t13 c = search needs
+
+mul-t14 : tie.Need-mul-t14
+mul-t14 c = search needs
+
+shared-slice-read-t16 : tie.Need-shared-slice-read-t16
+shared-slice-read-t16 c = search needs
 
 loads-of-requires : tie.Need-loads-of-requires
 loads-of-requires c κs = search needs
@@ -40,7 +46,7 @@ returns c =
     let plate = layout .before in
     let beam = plate .before in
     let args = start (beam .before) .args in
-    let face = faceOf (now (args .fields)) (args .levers) in
+    let face = faceOf (now (args .numbers)) (args .sixth) (args .fourteenth) (args .levers) in
     λ i. record {
       rows = face .rows;
       extended = face .extended;
@@ -57,12 +63,14 @@ pub face-of-spec : {M : Type 1} → statement M
 face-of-spec =
     tie.close
     (tie.spec
-    shared-slice-read-t4
     shared-slice-read-t6
+    shared-slice-read-t8
     beam-of-requires
     plate-of-requires
     layout-of-requires
     welds-of-requires
-    shared-slice-read-t12
+    add-t13
+    mul-t14
+    shared-slice-read-t16
     loads-of-requires
     returns)

@@ -14,7 +14,7 @@ stored-axial-requires c κs = search needs
 returns : tie.Need-returns
 unfolding fieldsOf
 returns c =
-    let axial = c .before .before .before .args .joint .face .loads .axial in
+    let axial = c .before .before .before .args .face .loads .axial in
     let back : toZ w32 (ofZ w32 axial) ≡ axial = search needs in
     rw (c .stored-axial .ensures, back)
 

@@ -1,5 +1,6 @@
--- `joint_of` meets its contract: column, bolts and face are what their functions ensure. Assumes nothing.
+-- `joint_of` meets its contract: column, bolts and both faces are what their functions ensure. Assumes nothing.
 use Rattle.fields.specs.Fields.{jointOf}
+use native.Mathlib.Omega.{arith}
 use borrow.Author.Needs.{needs}
 use Rattle.fields.proofs.joint_of.Statement.{statement}
 use Rattle.fields.proofs.joint_of.Tie as tie
@@ -22,11 +23,25 @@ slice-aggregate-face-of c = search needs
 face-of-requires : tie.Need-face-of-requires
 face-of-requires c κs = search needs
 
+slice-aggregate-face-of-2 : tie.Need-slice-aggregate-face-of-2
+slice-aggregate-face-of-2 c = search needs
+
+face-of-requires-2 : tie.Need-face-of-requires-2
+face-of-requires-2 c κs =
+    let arrays = c .before .before .before .before .before .before .before .good .1 .1 .0 in
+    record { grades = omega (arith, arrays); others = omega (arith, arrays) }
+
 returns : tie.Need-returns
 unfolding jointOf
 returns c =
-    let bolts = c .before .before in
-    λ i. record { column = bolts .before .before .column-of .ensures i; bolts = bolts .bolts-of .ensures i; face = c .face-of .ensures i }
+    let first = c .before .before in
+    let bolts = first .before .before in
+    λ i. record {
+      column = bolts .before .before .column-of .ensures i;
+      bolts = bolts .bolts-of .ensures i;
+      face = first .face-of .ensures i;
+      other = c .face-of2 .ensures i;
+    }
 
 pub joint-of-spec : {M : Type 1} → statement M
 joint-of-spec =
@@ -38,4 +53,6 @@ joint-of-spec =
     bolts-of-requires
     slice-aggregate-face-of
     face-of-requires
+    slice-aggregate-face-of-2
+    face-of-requires-2
     returns)
