@@ -1,7 +1,6 @@
 -- Rule 2.3: a beam on one face of the column or on both, by field 1. Assumes nothing.
 use Prim.Native.Nat.{ℕ, _-_}
-use mathlib.Core.Bool.{Bool, cond}
-use mathlib.Core.List.{List, [], _∷_}
+use mathlib.Core.Bool.{Bool, true, cond, _&&_}
 use Rattle.arithmetic.specs.Range.{Range, within, _to_}
 use Rattle.joint.specs.declared.Face.{Face}
 use Rattle.joint.specs.declared.Joint.{Joint}
@@ -39,6 +38,6 @@ withRows face rows = record {
 unfoldable pub firstFace : Face → Face
 firstFace face = withRows face (firstRows (face .rows))
 
--- the faces that a joint has; where it has one, nothing of a second is looked at
-abbrev pub facesOf : Joint → List Face
-facesOf joint = firstFace (joint .face) ∷ cond (twoFaced (joint .face .rows)) (joint .other ∷ []) []
+-- a test of each face that a joint has: where it has one, nothing of a second is looked at
+abbrev pub onFaces : (Face → Bool) → Joint → Bool
+onFaces test joint = test (firstFace (joint .face)) && cond (twoFaced (joint .face .rows)) (test (joint .other)) true

@@ -1,16 +1,22 @@
--- What the code's answer to writing means, what its steps require, and which joints the round trip is about. Assumes nothing.
-use Prim.Native.Nat.{ℕ, _+_, _-_, _*_, _^_, _≤_, _<_}
+-- What the code's answers mean, what its steps require, and which joints the round trip is about. Assumes nothing.
+use Prim.Native.Nat.{ℕ, _+_, _-_, _^_, _≤_, _<_}
 use mathlib.Core.Path.{_≡_}
-use mathlib.Core.List.{List, [], _∷_}
-use mathlib.Core.Bool.{true}
+use mathlib.Core.List.{List, [], _∷_, _++_}
+use mathlib.Core.Bool.{Bool, true, false}
 use lib.ListN.{length, getD, drop}
-use Rattle.arithmetic.specs.Range.{within}
-use Rattle.joint.specs.Ranges.{rowCounts}
+use Rattle.joint.specs.Faces.{twoFaced}
+use Rattle.joint.specs.declared.Bolts.{Bolts}
+use Rattle.joint.specs.declared.Column.{Column}
+use Rattle.joint.specs.declared.Face.{Face}
 use Rattle.joint.specs.declared.Joint.{Joint}
-use Rattle.numbers.specs.Run.{allZero}
-use Rattle.fields.specs.Fields.{fieldCount, fieldsOf}
-use Rattle.jointfile.specs.File.{lacking, storedFieldCount}
-use Rattle.jointfile.specs.Write.{fileOf, Writing, turnedDown, spareCheck, roomCheck, tried}
+use Rattle.numbers.specs.Parse.{Parse, got, refused, andThen}
+use Rattle.numbers.specs.Run.{storedAll}
+use Rattle.numbers.specs.Answers.{endPlace}
+use Rattle.numbers.specs.declared.run.Run.{Run}
+use Rattle.numbers.specs.declared.run.Run.the-variants.{Next, Refused as RunRefused}
+use Rattle.fields.specs.Fields.{fieldCount, ownCount, secondFaceOf, jointOf, fieldsOf}
+use Rattle.jointfile.specs.File.{Part, lacking, storedFieldCount, noPart, readOthers, readPart}
+use Rattle.jointfile.specs.Write.{Writing, turnedDown, rowsCheck, spareCheck, roomCheck, tried}
 use Rattle.jointfile.specs.declared.FileKind.{FileKind}
 use Rattle.jointfile.specs.declared.Written.{Written}
 use Rattle.jointfile.specs.declared.Written.the-variants.{Length, Refused}
@@ -20,42 +26,71 @@ abbrev pub writtenMeaning : Written → List ℕ → Writing
 writtenMeaning (Length size) buffer = record { refusal = 0; size = size; buffer = buffer }
 writtenMeaning (Refused r) buffer = turnedDown buffer r
 
--- What writing comes to where the row count and the spare levers are right, so that only the room is left to try.
+-- What writing comes to where the row counts and the spare levers are right, so that only the room is left to try.
 unfoldable pub writingIfRoom : (bytes buffer : List ℕ) → Writing
 writingIfRoom bytes buffer = tried bytes buffer (roomCheck bytes buffer ∷ [])
 
--- What it comes to where the row count is right: the spare levers are tried, and then the room.
-unfoldable pub writingRows : (fields : List ℕ) (rows : ℕ) (levers buffer : List ℕ) → Writing
-writingRows fields rows levers buffer =
-    let bytes = fileOf fields rows levers in
-    tried bytes buffer (spareCheck rows levers ∷ roomCheck bytes buffer ∷ [])
+-- What reading gives, where the fields of a part stand in one list and its levers in another.
+abbrev pub partMeaning : (bytes fields levers : List ℕ) → Run → Parse Part
+partMeaning bytes fields levers (Next next) = got (record { fields = fields; levers = levers }) (drop next bytes)
+partMeaning bytes fields levers (RunRefused r) = refused r
 
--- No file of the new kind is longer: field 1 takes one byte, each of the other fields and of the eight levers at most five.
-abbrev pub mostFile : ℕ
-mostFile = 1 + 5 * (fieldCount - 1 + 8)
+-- The answer to reading what follows a row count: after any count it means what the definition gives from the place on, and from a place in
+-- the bytes it goes to another.
+pub record OthersRead (bytes : List ℕ) (from rows : ℕ) (entry others levers : List ℕ) (run : Run) : Type 0 where
+  pub means : (count : ℕ) → partMeaning bytes (count ∷ others) levers run ≡ readOthers (length entry) count rows (drop from bytes)
+  pub within : from ≤ length bytes → endPlace run ≤ length bytes
 
--- No file of the new kind is shorter: a byte for each field and for one lever.
-abbrev pub leastFile : ℕ
-leastFile = fieldCount + 1
+-- The answer to reading a part from a place on, whose fields have so many places.
+pub record PartRead (bytes : List ℕ) (from : ℕ) (first : Bool) (entry fields levers : List ℕ) (run : Run) : Type 0 where
+  pub means : partMeaning bytes fields levers run ≡ readPart first (length entry - 1) (drop from bytes)
+  pub within : endPlace run ≤ length bytes
 
--- The two parts of a file, few enough for the longest file: the fields, of which the first is a row count, and the levers.
-pub record FileParts (fs hs : List ℕ) : Type 0 where
-  pub fields : length fs ≤ fieldCount
-  pub rows : getD fs 0 0 ≤ 8
-  pub levers : length hs ≤ 8
+-- What is read after the part of a first face that says that a second follows.
+unfoldable pub secondAfter : (fields levers bytes : List ℕ) → Parse Joint
+secondAfter fields levers bytes =
+    andThen (readPart false (ownCount - 1) bytes) (λ second rest. got (jointOf fields levers (second .fields) (second .levers)) rest)
 
--- A joint that the program can hold: eight levers, and each number of the file in 32 bits. Of N that is the number that it is stored as,
--- which takes 32 bits just where N is in the range of a signed field of 32.
+-- The bytes of the numbers of a file: fields and levers of the first face, and those of the second, none where there is no second.
+abbrev pub numbersStored : (fields levers own others : List ℕ) → List ℕ
+numbersStored fields levers own others = (storedAll fields ++ storedAll levers) ++ (storedAll own ++ storedAll others)
+
+-- The numbers of a file, no more than a file has, of which the first takes one byte.
+pub record FileParts (fields levers own others : List ℕ) : Type 0 where
+  pub some : 1 ≤ length fields
+  pub few : length fields ≤ fieldCount
+  pub count : getD fields 0 0 < 128
+  pub rows : length levers ≤ 8
+  pub own-few : length own ≤ ownCount
+  pub other-rows : length others ≤ 8
+
+-- A face that the program can hold, among the fields of a column and its bolts: eight levers, and each number of the file in 32 bits. Of N
+-- that is the number that it is stored as, which takes 32 bits just where N is in the range of a signed field of 32.
+pub record FaceHeld (column : Column) (bolts : Bolts) (face : Face) : Type 0 where
+  pub eight : length (face .levers) ≡ 8
+  pub fields : (k : ℕ) → getD (fieldsOf column bolts face) k 0 < 2 ^ 32
+  pub levers : (k : ℕ) → getD (face .levers) k 0 < 2 ^ 32
+
+-- A joint that the program can hold.
 pub record Held (joint : Joint) : Type 0 where
-  pub eight : length (joint .face .levers) ≡ 8
-  pub fields : (k : ℕ) → getD (fieldsOf joint) k 0 < 2 ^ 32
-  pub levers : (k : ℕ) → getD (joint .face .levers) k 0 < 2 ^ 32
+  pub first : FaceHeld (joint .column) (joint .bolts) (joint .face)
+  pub second : FaceHeld (joint .column) (joint .bolts) (joint .other)
 
 -- A joint that is refused by neither 3 nor 6.
 pub record Writable (joint : Joint) : Type 0 where
-  pub rows : within rowCounts (joint .face .rows) ≡ true
-  pub spare : allZero (drop (joint .face .rows) (joint .face .levers)) ≡ true
+  pub rows : rowsCheck joint .1 ≡ true
+  pub spare : spareCheck joint .1 ≡ true
 
--- A joint that a file of this kind tells whole: the fields that the file lacks are those that reading gives.
-abbrev pub ToldBy : FileKind → Joint → Type 0
-ToldBy kind joint = drop (storedFieldCount kind) (fieldsOf joint) ≡ lacking kind
+-- A joint that a file of this kind tells whole: the fields that the file lacks are those that reading gives, and where there is no second
+-- face, it is all 0.
+pub record ToldBy (kind : FileKind) (joint : Joint) : Type 0 where
+  pub lacks : drop (storedFieldCount kind) (fieldsOf (joint .column) (joint .bolts) (joint .face)) ≡ lacking kind
+  pub alone : twoFaced (joint .face .rows) ≡ false → joint .other ≡ secondFaceOf (noPart .fields) (noPart .levers)
+
+-- No file of the new kind is shorter: a byte for each field and for one lever; and with a second face, one for each field that it has of its
+-- own and for one lever of it.
+abbrev pub leastFile : ℕ
+leastFile = fieldCount + 1
+
+abbrev pub leastTwoFaced : ℕ
+leastTwoFaced = leastFile + (ownCount + 1)

@@ -1,17 +1,18 @@
--- Reading a joint file of either kind (rules 9.3 to 9.5 and 9.7): field 1, the other fields and a lever for each row, one number after
--- another, with the refusal of the first trouble; and what is left after it. Assumes nothing.
+-- Reading a joint file of either kind (rules 9.3 to 9.5, 9.7 and 9.8): for each face a row count, the other fields and a lever for each
+-- row, one number after another, with the refusal of the first trouble; and what is left after it. Assumes nothing.
 use Prim.Native.Nat.{ℕ, _-_}
 use mathlib.Core.List.{List, [], _∷_, _++_}
-use mathlib.Core.Bool.{cond}
-use lib.ListN.{length, replicate}
+use mathlib.Core.Bool.{Bool, true, false, cond}
+use lib.ListN.{length, getD, replicate}
 use Rattle.arithmetic.specs.Range.{within}
 use Rattle.joint.specs.Ranges.{rowCounts}
+use Rattle.joint.specs.Faces.{twoFaced, firstRows}
 use Rattle.joint.specs.Places.{eightPlaces}
 use Rattle.joint.specs.declared.Joint.{Joint}
 use Rattle.numbers.specs.Parse.{Parse, got, refused, andThen}
 use Rattle.numbers.specs.Number.{readNumber}
 use Rattle.numbers.specs.Run.{readNumbers}
-use Rattle.fields.specs.Fields.{fieldCount, jointOf}
+use Rattle.fields.specs.Fields.{fieldCount, ownCount, jointOf}
 use Rattle.jointfile.specs.declared.FileKind.{FileKind}
 use Rattle.jointfile.specs.declared.FileKind.the-variants.{Old, New}
 use Rattle.jointfile.specs.declared.Reading.{Reading}
@@ -32,21 +33,50 @@ storedFieldCount kind = fieldCount - length (lacking kind)
 abbrev pub otherFieldCount : FileKind → ℕ
 otherFieldCount kind = storedFieldCount kind - 1
 
--- what follows field 1: the other fields, and the levers of the rows
-unfoldable pub readOthers : FileKind → ℕ → List ℕ → Parse Joint
-readOthers kind rows bytes =
-    andThen (readNumbers (otherFieldCount kind) bytes)
-    (λ others left. andThen (readNumbers rows left)
-    (λ levers rest. got (jointOf (rows ∷ others ++ lacking kind) (eightPlaces levers)) rest))
+-- What a face's part of a file gives: its fields before the levers, the row count first, and its levers in eight places.
+pub record Part : Type 0 where
+  pub fields : List ℕ
+  pub levers : List ℕ
 
--- A joint: 3 is told when field 1 is read, before anything of field 2 is; no other range is looked at.
+-- the rows of a part by its row count: only that of a joint's first face may be marked (rule 2.3)
+abbrev pub rowsBy : (first : Bool) (count : ℕ) → ℕ
+rowsBy first count = cond first (firstRows count) count
+
+-- what follows the row count of a part: so many other fields, and a lever for each row
+unfoldable pub readOthers : (others count rows : ℕ) → List ℕ → Parse Part
+readOthers others count rows bytes =
+    andThen (readNumbers others bytes)
+    (λ numbers left. andThen (readNumbers rows left)
+    (λ levers rest. got (record { fields = count ∷ numbers; levers = eightPlaces levers }) rest))
+
+-- A part: 3 is told when its row count is read, before anything of the next number is; no other range is looked at.
+unfoldable pub readPart : (first : Bool) (others : ℕ) → List ℕ → Parse Part
+readPart first others bytes =
+    andThen (readNumber bytes)
+    (λ count left. cond (within rowCounts (rowsBy first count)) (readOthers others count (rowsBy first count) left) (refused 3))
+
+-- the part of a second face that there isn't: every number is 0
+abbrev pub noPart : Part
+noPart = record { fields = replicate ownCount 0; levers = replicate 8 0 }
+
+-- the joint of its parts; the first may lack fields
+abbrev pub jointOfParts : FileKind → (part second : Part) → Joint
+jointOfParts kind part second = jointOf (part .fields ++ lacking kind) (part .levers) (second .fields) (second .levers)
+
+-- rule 9.8: what follows the first part, where its row count is marked: that of the second face, whose count isn't
+unfoldable pub readSecond : FileKind → Part → List ℕ → Parse Joint
+readSecond kind part bytes =
+    cond (twoFaced (getD (part .fields) 0 0))
+    (andThen (readPart false (ownCount - 1) bytes) (λ second rest. got (jointOfParts kind part second) rest))
+    (got (jointOfParts kind part noPart) bytes)
+
+-- A joint: the part of its first face, with the column and the bolts, and that of its second, if it has one.
 unfoldable pub readJoint : FileKind → List ℕ → Parse Joint
-readJoint kind bytes =
-    andThen (readNumber bytes) (λ rows left. cond (within rowCounts rows) (readOthers kind rows left) (refused 3))
+readJoint kind bytes = andThen (readPart true (otherFieldCount kind) bytes) (readSecond kind)
 
 -- What stands in the joint's place in a refusal: every field is 0.
 unfoldable pub noJoint : Joint
-noJoint = jointOf (replicate fieldCount 0) (replicate 8 0)
+noJoint = jointOf (replicate fieldCount 0) (replicate 8 0) (replicate ownCount 0) (replicate 8 0)
 
 -- What `read` answers of bytes that end at `end`: 0, the joint and the place after it; or the refusal, no joint and the end.
 abbrev pub answer : ℕ → Parse Joint → Reading

@@ -1,4 +1,4 @@
--- Rules 9.2 to 9.7, what a joint file is: reading one (`File`) and writing one (`Write`). Its numbers are those of the crate `numbers`,
+-- Rules 9.2 to 9.8, what a joint file is: reading one (`File`) and writing one (`Write`). Its numbers are those of the crate `numbers`,
 -- and their order is that of `fields`.
 pub mod File
 pub mod Write

@@ -4,10 +4,14 @@
 // short for them, since such a buffer stays untouched. And `rest` reads the joint again; a caller that has `read`'s answer need not ask
 // it, since the bytes from the answer's next place on are what is left.
 use fields::FIELD_COUNT;
+use fields::OWN_COUNT;
 use fields::fields_of;
 use fields::joint_of;
+use fields::own_of;
 use joint::Joint;
+use joint::first_rows;
 use joint::is_row_count;
+use joint::is_two_faced;
 use numbers::number::Number;
 use numbers::number::number_at;
 use numbers::number::refusal_of;
@@ -17,16 +21,20 @@ use numbers::run::numbers_at;
 use numbers::run::put_numbers;
 use numbers::run::run_refusal;
 use numbers::run::stored_size;
-ghost use Prim.Native.Nat.{_≤_};
+ghost use Prim.Native.Nat.{_+_, _≤_};
 ghost use mathlib.Core.Path.{_≡_};
+ghost use mathlib.Core.Bool.{true};
 ghost use mathlib.Core.List.{_++_};
 ghost use lib.Dec.{leb};
-ghost use lib.ListN.{length, getD, drop};
+ghost use lib.ListN.{length, drop, replicate};
+ghost use Rattle.buffers.specs.Put.{Put};
 ghost use Rattle.numbers.specs.Parse.{refused};
-ghost use Rattle.numbers.specs.Run.{storedAll};
-ghost use Rattle.jointfile.specs.File.{storedFieldCount, readOthers, answer, reading, restOf};
-ghost use Rattle.jointfile.specs.Write.{writing};
-ghost use Rattle.jointfile.specs.Answers.{writtenMeaning, writingIfRoom, writingRows, FileParts};
+ghost use Rattle.numbers.specs.Run.{storedAll, allZero};
+ghost use Rattle.jointfile.specs.File.{storedFieldCount, rowsBy, answer, reading, restOf};
+ghost use Rattle.jointfile.specs.Write.{rowsCheck, spareCheck, file, writing};
+ghost use Rattle.jointfile.specs.Answers.{OthersRead, PartRead, secondAfter};
+ghost use Rattle.jointfile.specs.Answers.{writtenMeaning, writingIfRoom, numbersStored, FileParts};
+ghost use Rattle.jointfile.specs.declared.FileKind.the-variants.{New};
 
 // The kinds of joint file. The old one has no z, field 30.
 pub enum FileKind {
@@ -61,53 +69,93 @@ pub struct Reading {
 fn no_joint(refusal: u32, end: usize) -> Reading
     ensures { λ r. ⌜ r ≡ answer end (refused refusal) ⌝ }
 {
-    let fields = [0u32; FIELD_COUNT];
-    let levers = [0u32; 8];
     Reading {
         refusal,
-        joint: joint_of(fields, levers),
+        joint: joint_of([0; FIELD_COUNT], [0; 8], [0; OWN_COUNT], [0; 8]),
         next: end,
     }
 }
 
-// Reads what follows field 1. z gets its value for the old kind first; a file that has z is read over it.
-fn read_others(bytes: &[u8], kind: FileKind, rows: u32, from: usize) -> Reading
-    requires { ⌜ (rows ≤ 8) × (from ≤ length (now bytes)) ⌝ }
-    ensures { λ r. ⌜ r ≡ answer (length (now (bytes .entry))) (readOthers kind rows (drop from (now (bytes .entry)))) ⌝ }
+// The rows of a part by its row count; only a joint's first face has one that may be marked.
+fn rows_by(first: bool, count: u32) -> u32
+    ensures { λ r. ⌜ r ≡ rowsBy first count ⌝ }
 {
-    let mut fields = [0u32; FIELD_COUNT];
-    fields[0] = rows;
-    fields[FIELD_COUNT - 1] = UNTOLD_END_DISTANCE;
-    let stored = stored_field_count(kind);
-    let others = numbers_at(bytes, from, &mut fields[1..stored]);
-    let Run::Next(after) = others else {
-        return no_joint(run_refusal(others), bytes.len());
+    if first { first_rows(count) } else { count }
+}
+
+// Reads what follows a row count: the other fields, and the levers into the first places of eight that are 0.
+fn read_others(
+    bytes: &[u8],
+    from: usize,
+    rows: usize,
+    others: &mut [u32],
+    levers: &mut [u32],
+) -> Run
+    requires { ⌜ (rows ≤ 8) × (now levers ≡ replicate 8 0) ⌝ }
+    ensures { λ r. ⌜ OthersRead (now (bytes .entry)) from rows (now (others .entry)) (now (others .exit)) (now (levers .exit)) r ⌝ }
+{
+    let fields = numbers_at(bytes, from, others);
+    let Run::Next(after) = fields else {
+        return fields;
     };
-    let mut levers = [0u32; 8];
-    let count = rows as usize;
-    let last = numbers_at(bytes, after, &mut levers[..count]);
-    let Run::Next(next) = last else {
-        return no_joint(run_refusal(last), bytes.len());
+    numbers_at(bytes, after, &mut levers[..rows])
+}
+
+// Reads a face's part of a file. Refusal 3 is told as soon as its row count is read.
+fn read_part(bytes: &[u8], from: usize, first: bool, fields: &mut [u32], levers: &mut [u32]) -> Run
+    requires { ⌜ (1 ≤ length (now fields)) × (now levers ≡ replicate 8 0) ⌝ }
+    ensures { λ r. ⌜ PartRead (now (bytes .entry)) from first (now (fields .entry)) (now (fields .exit)) (now (levers .exit)) r ⌝ }
+{
+    let number = number_at(bytes, from);
+    let Number::Value { value, next } = number else {
+        return Run::Refused(refusal_of(number));
+    };
+    let rows = rows_by(first, value) as usize;
+    if !is_row_count(rows) {
+        return Run::Refused(3);
+    }
+    fields[0] = value;
+    read_others(bytes, next, rows, &mut fields[1..], levers)
+}
+
+// Reads the second face's part, after the first one's.
+fn read_second(bytes: &[u8], from: usize, fields: [u32; FIELD_COUNT], levers: [u32; 8]) -> Reading
+    requires { ⌜ from ≤ length (now bytes) ⌝ }
+    ensures { λ r. ⌜ r ≡ answer (length (now (bytes .entry))) (secondAfter fields levers (drop from (now (bytes .entry)))) ⌝ }
+{
+    let mut own = [0u32; OWN_COUNT];
+    let mut other_levers = [0u32; 8];
+    let second = read_part(bytes, from, false, &mut own, &mut other_levers);
+    let Run::Next(next) = second else {
+        return no_joint(run_refusal(second), bytes.len());
     };
     Reading {
         refusal: 0,
-        joint: joint_of(fields, levers),
+        joint: joint_of(fields, levers, own, other_levers),
         next,
     }
 }
 
-// The joint that the bytes begin with. Refusal 3 is told as soon as field 1 is read.
+// The joint that the bytes begin with. z gets its value for the old kind first; a file that has z is read over it.
 pub fn read(bytes: &[u8], kind: FileKind) -> Reading
     ensures { λ r. ⌜ r ≡ reading kind (now (bytes .entry)) ⌝ }
 {
-    let first = number_at(bytes, 0);
-    let Number::Value { value, next } = first else {
-        return no_joint(refusal_of(first), bytes.len());
+    let mut fields = [0u32; FIELD_COUNT];
+    fields[FIELD_COUNT - 1] = UNTOLD_END_DISTANCE;
+    let mut levers = [0u32; 8];
+    let stored = stored_field_count(kind);
+    let first = read_part(bytes, 0, true, &mut fields[..stored], &mut levers);
+    let Run::Next(next) = first else {
+        return no_joint(run_refusal(first), bytes.len());
     };
-    if is_row_count(value as usize) {
-        return read_others(bytes, kind, value, next);
+    if is_two_faced(fields[0]) {
+        return read_second(bytes, next, fields, levers);
     }
-    no_joint(3, bytes.len())
+    Reading {
+        refusal: 0,
+        joint: joint_of(fields, levers, [0; OWN_COUNT], [0; 8]),
+        next,
+    }
 }
 
 // The part of the bytes after their first joint, empty when it can't be read.
@@ -125,59 +173,133 @@ pub enum Written {
     Refused(u32),
 }
 
-// No file of the new kind is longer: field 1 takes one byte, each of the other fields and of the eight levers at most five.
-const MOST_FILE: usize = 1 + 5 * (FIELD_COUNT - 1 + 8);
-
-// No file of the new kind is shorter: a byte for each field and for one lever.
+// No file of the new kind is shorter: a byte for each field and for one lever; and with a second face, one for each field that it has of
+// its own and for one lever of it.
 pub const LEAST_FILE: usize = FIELD_COUNT + 1;
 
-// Whether so many places hold the file. Only a buffer that is shorter than the longest file asks for measuring.
-fn has_room(fields: &[u32], levers: &[u32], room: usize) -> bool
-    requires { ⌜ FileParts (now fields) (now levers) ⌝ }
-    ensures { λ r. ⌜ r ≡ leb (length (storedAll (now (fields .entry)) ++ storedAll (now (levers .entry)))) room ⌝ }
+pub const LEAST_TWO_FACED: usize = LEAST_FILE + OWN_COUNT + 1;
+
+// Whether so many places hold the numbers of a file. The first takes one byte and each other at most five; only a buffer that may be too
+// short by that asks for measuring.
+fn has_room(fields: &[u32], levers: &[u32], own: &[u32], others: &[u32], room: usize) -> bool
+    requires { ⌜ FileParts (now fields) (now levers) (now own) (now others) ⌝ }
+    ensures { λ r. ⌜ r
+        ≡ leb (length (numbersStored (now (fields .entry)) (now (levers .entry)) (now (own .entry)) (now (others .entry)))) room ⌝ }
 {
-    if MOST_FILE <= room {
+    if 1 + 5 * (fields.len() - 1 + levers.len() + own.len() + others.len()) <= room {
         return true;
     }
-    stored_size(fields) + stored_size(levers) <= room
+    stored_size(fields) + stored_size(levers) + stored_size(own) + stored_size(others) <= room
 }
 
-// Puts the file into the buffer, if there is room for it.
-fn put_file(fields: &[u32], levers: &[u32], buffer: &mut [u8]) -> Written
-    requires { ⌜ FileParts (now fields) (now levers) ⌝ }
+// Puts the numbers of a file into the buffer, if there is room for them.
+fn put_file(
+    fields: &[u32],
+    levers: &[u32],
+    own: &[u32],
+    others: &[u32],
+    buffer: &mut [u8],
+) -> Written
+    requires { ⌜ FileParts (now fields) (now levers) (now own) (now others) ⌝ }
     ensures { λ r. ⌜ writtenMeaning r (now (buffer .exit))
-        ≡ writingIfRoom (storedAll (now (fields .entry)) ++ storedAll (now (levers .entry))) (now (buffer .entry)) ⌝ }
+        ≡ writingIfRoom (numbersStored (now (fields .entry)) (now (levers .entry)) (now (own .entry)) (now (others .entry)))
+        (now (buffer .entry)) ⌝ }
 {
-    if has_room(fields, levers, buffer.len()) {
-        let at = put_numbers(buffer, 0, fields);
-        let size = put_numbers(buffer, at, levers);
+    if has_room(fields, levers, own, others, buffer.len()) {
+        let after_first = put_part(buffer, 0, fields, levers);
+        let size = put_part(buffer, after_first, own, others);
         return Written::Length(size);
     }
     Written::Refused(5)
 }
 
-// Writes the file of a joint whose row count is right: 6 is tried before 5.
-fn write_rows(fields: [u32; FIELD_COUNT], rows: u32, levers: [u32; 8], buffer: &mut [u8]) -> Written
-    requires { ⌜ (rows ≤ 8) × (getD fields 0 0 ≤ 8) ⌝ }
-    ensures { λ r. ⌜ writtenMeaning r (now (buffer .exit)) ≡ writingRows fields rows levers (now (buffer .entry)) ⌝ }
+// Puts the numbers of a part, for which there is room, and answers the place after them.
+fn put_part(buffer: &mut [u8], from: usize, fields: &[u32], levers: &[u32]) -> usize
+    requires { ⌜ from + length (storedAll (now fields) ++ storedAll (now levers)) ≤ length (now buffer) ⌝ }
+    ensures { λ r. ⌜ Put (now (buffer .entry)) from (storedAll (now (fields .entry)) ++ storedAll (now (levers .entry)))
+        (now (buffer .exit)) r ⌝ }
 {
-    let count = rows as usize;
-    if all_zero(&levers[count..]) {
-        return put_file(&fields, &levers[..count], buffer);
-    }
-    Written::Refused(6)
+    let after_fields = put_numbers(buffer, from, fields);
+    put_numbers(buffer, after_fields, levers)
 }
 
-// Writes a joint's file, of the new kind, to the front of the buffer: 3 is tried first.
+// Refusal 3's question of each face that a joint has: whether it may have so many rows.
+fn has_row_counts(joint: Joint) -> bool
+    ensures { λ r. ⌜ r ≡ rowsCheck joint .1 ⌝ }
+{
+    let face = joint.face;
+    let other = joint.other;
+    if !is_row_count(first_rows(face.rows) as usize) {
+        return false;
+    }
+    if is_two_faced(face.rows) {
+        return is_row_count(other.rows as usize);
+    }
+    true
+}
+
+// Whether the levers past so many rows are 0. That the array has eight levers is promised too: of an array that is a field the caller
+// doesn't know it.
+fn is_spare_zero(rows: u32, levers: [u32; 8]) -> bool
+    requires { ⌜ rows ≤ 8 ⌝ }
+    ensures { λ r. ⌜ (r ≡ allZero (drop rows levers)) × (length levers ≡ 8) ⌝ }
+{
+    let count = rows as usize;
+    all_zero(&levers[count..])
+}
+
+// Refusal 6's question of each face that a joint has: whether its spare levers are 0.
+fn has_zero_spares(joint: Joint) -> bool
+    requires { ⌜ rowsCheck joint .1 ≡ true ⌝ }
+    ensures { λ r. ⌜ (r ≡ spareCheck joint .1) × (length (joint .face .levers) ≡ 8) ⌝ }
+{
+    let face = joint.face;
+    let other = joint.other;
+    let levers = face.levers;
+    if !is_spare_zero(first_rows(face.rows), levers) {
+        return false;
+    }
+    if is_two_faced(face.rows) {
+        let other_levers = other.levers;
+        return is_spare_zero(other.rows, other_levers);
+    }
+    true
+}
+
+// Writes the file of a joint whose row counts and spare levers are right.
+fn write_parts(joint: Joint, buffer: &mut [u8]) -> Written
+    requires { ⌜ rowsCheck joint .1 ≡ true ⌝ }
+    ensures { λ r. ⌜ writtenMeaning r (now (buffer .exit)) ≡ writingIfRoom (file New joint) (now (buffer .entry)) ⌝ }
+{
+    let face = joint.face;
+    let levers = face.levers;
+    let rows = first_rows(face.rows) as usize;
+    let fields = fields_of(joint.column, joint.bolts, face);
+    if is_two_faced(face.rows) {
+        let other = joint.other;
+        let other_levers = other.levers;
+        let other_rows = other.rows as usize;
+        let own = own_of(fields_of(joint.column, joint.bolts, other));
+        return put_file(
+            &fields,
+            &levers[..rows],
+            &own,
+            &other_levers[..other_rows],
+            buffer,
+        );
+    }
+    put_file(&fields, &levers[..rows], &fields[..0], &levers[..0], buffer)
+}
+
+// Writes a joint's file, of the new kind, to the front of the buffer. Each refusal is tried on both faces before the next.
 pub fn write(joint: Joint, buffer: &mut [u8]) -> Written
     ensures { λ r. ⌜ writtenMeaning r (now (buffer .exit)) ≡ writing joint (now (buffer .entry)) ⌝ }
 {
-    let face = joint.face;
-    let rows = face.rows;
-    let levers = face.levers;
-    if is_row_count(rows as usize) {
-        let fields = fields_of(joint);
-        return write_rows(fields, rows, levers, buffer);
+    if !has_row_counts(joint) {
+        return Written::Refused(3);
     }
-    Written::Refused(3)
+    if !has_zero_spares(joint) {
+        return Written::Refused(6);
+    }
+    write_parts(joint, buffer)
 }
