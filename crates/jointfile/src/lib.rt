@@ -272,12 +272,12 @@ fn write_parts(joint: Joint, buffer: &mut [u8]) -> Written
     ensures { λ r. ⌜ writtenMeaning r (now (buffer .exit)) ≡ writingIfRoom (file New joint) (now (buffer .entry)) ⌝ }
 {
     let face = joint.face;
+    let other = joint.other;
     let levers = face.levers;
+    let other_levers = other.levers;
     let rows = first_rows(face.rows) as usize;
     let fields = fields_of(joint.column, joint.bolts, face);
     if is_two_faced(face.rows) {
-        let other = joint.other;
-        let other_levers = other.levers;
         let other_rows = other.rows as usize;
         let own = own_of(fields_of(joint.column, joint.bolts, other));
         return put_file(
@@ -288,7 +288,14 @@ fn write_parts(joint: Joint, buffer: &mut [u8]) -> Written
             buffer,
         );
     }
-    put_file(&fields, &levers[..rows], &fields[..0], &levers[..0], buffer)
+    let own = [0; OWN_COUNT];
+    put_file(
+        &fields,
+        &levers[..rows],
+        &own[..0],
+        &other_levers[..0],
+        buffer,
+    )
 }
 
 // Writes a joint's file, of the new kind, to the front of the buffer. Each refusal is tried on both faces before the next.
