@@ -1,4 +1,4 @@
--- The governing force is the least of the four, so it is at most web bearing. Assumes nothing.
+-- The governing force is the least of those that count, so it is at most web bearing. Assumes nothing.
 use mathlib.Core.Path.{_≡_, refl}
 use mathlib.Core.Bool.{Bool, true, false, cond}
 use Prim.Native.Nat.{_≤_, min}
@@ -18,6 +18,8 @@ force-lesser first second = either (leb (forceOf first) (forceOf second)) refl
     either true e = omega (arith, leb-true (forceOf first) (forceOf second) e)
     either false e = omega (arith, leb-false (forceOf first) (forceOf second) e)
 
-pub governing-le-bearing : (resistances : Resistances) → forceOf (governingCheck resistances) ≤ resistances .bearing
+pub governing-le-bearing : (panelCounts : Bool) (resistances : Resistances)
+    → forceOf (governingCheck panelCounts resistances) ≤ resistances .bearing
 unfolding governingCheck
-governing-le-bearing resistances = simp force-lesser (omega arith)
+governing-le-bearing true resistances = simp force-lesser (omega arith)
+governing-le-bearing false resistances = simp force-lesser (omega arith)

@@ -1,6 +1,6 @@
--- Rule 5.6: the compression check that governs, with its force. Assumes nothing.
+-- Rules 5.6 and 5.10: the compression check that governs, with its force. Assumes nothing.
 use Prim.Native.Nat.{ℕ}
-use mathlib.Core.Bool.{cond}
+use mathlib.Core.Bool.{Bool, cond}
 use mathlib.Core.List.{List, [], _∷_}
 use lib.Dec.{leb}
 use Rattle.compression.specs.declared.Resistances.{Resistances}
@@ -21,8 +21,8 @@ abbrev pub firstLeast : CompressionCheck → List CompressionCheck → Compressi
 firstLeast found [] = found
 firstLeast found (check ∷ checks) = firstLeast (lesser found check) checks
 
--- rule 5.6: the first least of the four, in this order
-unfoldable pub governingCheck : Resistances → CompressionCheck
-governingCheck resistances =
+-- rules 5.6 and 5.10: the first least of the four, in this order; of the first three where panel shear doesn't count
+unfoldable pub governingCheck : (panelCounts : Bool) → Resistances → CompressionCheck
+governingCheck panelCounts resistances =
     firstLeast (Flange (resistances .flange))
-    (Bearing (resistances .bearing) ∷ Buckling (resistances .buckling) ∷ Panel (resistances .panel) ∷ [])
+    (Bearing (resistances .bearing) ∷ Buckling (resistances .buckling) ∷ cond panelCounts (Panel (resistances .panel) ∷ []) [])

@@ -1,4 +1,4 @@
-// Which of the four compression resistances governs, and the tension cap that it leaves (rules 5.6, 5.7 and 11.7).
+// Which of the four compression resistances governs, and the tension cap that it leaves (rules 5.6, 5.7, 5.10 and 11.7).
 ghost use mathlib.Core.Path.{_≡_};
 ghost use Prim.Native.Nat.{_≤_};
 ghost use Rattle.joint.specs.InRange.{LoadsInRange};
@@ -17,15 +17,18 @@ pub enum CompressionCheck {
     Panel(u64),
 }
 
-// The check that governs: the first least of the four.
-pub fn governing_check(resistances: Resistances) -> CompressionCheck
-    ensures { λ r. ⌜ r ≡ governingCheck resistances ⌝ }
+// The check that governs: the first least of the four, or of the first three where panel shear doesn't count.
+pub fn governing_check(panel_counts: bool, resistances: Resistances) -> CompressionCheck
+    ensures { λ r. ⌜ r ≡ governingCheck «panel_counts» resistances ⌝ }
 {
     let flange = CompressionCheck::Flange(resistances.flange);
     let bearing = CompressionCheck::Bearing(resistances.bearing);
     let buckling = CompressionCheck::Buckling(resistances.buckling);
-    let panel = CompressionCheck::Panel(resistances.panel);
-    lesser_of(lesser_of(lesser_of(flange, bearing), buckling), panel)
+    let least = lesser_of(lesser_of(flange, bearing), buckling);
+    if panel_counts {
+        return lesser_of(least, CompressionCheck::Panel(resistances.panel));
+    }
+    least
 }
 
 pub fn force_of(check: CompressionCheck) -> u64
