@@ -15,6 +15,8 @@ pub struct Refusal {
     pub number: u32,
     // the first field out of range, with refusal 10; else 0
     pub field: u32,
+    // 1 or 2, the face of a joint that has two; else 0
+    pub face: u32,
 }
 
 // What one face of the column comes to. In a refusal the figures are 0, the check is Flange with 0, and the verdicts are no.
@@ -31,8 +33,20 @@ pub struct FaceResult {
     pub verdicts: Verdicts,
 }
 
+// Whether the web panel of a column with a beam on both faces carries what they bring to it.
+pub enum PanelVerdict {
+    // there is one face, and panel shear is in its cap; or the joint is refused
+    NotAsked,
+    Passes,
+    Fails,
+}
+
 // What Work answers.
 pub struct Outcome {
     pub refusal: Refusal,
+    // of the first face
     pub result: FaceResult,
+    // of the second; as in a refusal where there is none
+    pub other: FaceResult,
+    pub panel: PanelVerdict,
 }
