@@ -104,7 +104,8 @@ fn reduced_near_end(force: u64, column: Column) -> u64
     force
 }
 
-fn panel_shear(strength: u64, column: Column) -> u64
+// Work asks it for the panel of a column with two beams too.
+pub fn panel_shear(strength: u64, column: Column) -> u64
     requires { ⌜ Within yieldStrengths strength × ColumnInRange column ⌝ }
     ensures { λ r. ⌜ r ≡ panelShear strength column ⌝ }
 {

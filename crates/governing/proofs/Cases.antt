@@ -1,9 +1,11 @@
--- The two cases of the cap: which way refusal 15 goes, and that a cap which isn't below 0 is its newtons. Assumes nothing.
+-- The two cases of the cap: which way refusal 15 goes, that a cap which isn't below 0 is its newtons, and how large those are. Assumes
+-- nothing.
 use mathlib.Core.Path.{_≡_, refl}
 use mathlib.Core.Bool.{Bool, true, false, cond}
-use Prim.Native.Nat.{ℕ, zero, suc}
+use Prim.Native.Nat.{ℕ, zero, suc, _+_, _-_, _≤_}
 use native.Mathlib.Omega.{arith}
-use lib.IntN.{ℤ, pos, negsuc, _-ℤ_}
+use lib.Dec.{ltb}
+use lib.IntN.{ℤ, pos, negsuc, natAbs, _-ℤ_}
 use lib.Signed.{ltZ}
 use Rattle.joint.specs.declared.Loads.{Loads}
 use Rattle.governing.specs.Cap.{tensionCap, overCompressed, newtonsOf}
@@ -38,3 +40,17 @@ cap-newtons loads force under = by-sign (loads .axial) under
     by-sign (pos zero) h = refl
     by-sign (pos (suc n)) h = rw h
     by-sign (negsuc n) h = refl
+
+-- no cap is above the governing force with all of N on top
+pub cap-le : (loads : Loads) (force : ℕ) → newtonsOf (tensionCap loads force) ≤ force + natAbs (loads .axial)
+unfolding tensionCap
+cap-le loads force = by-sign (loads .axial)
+  where
+    by-sign : (axial : ℤ) → newtonsOf (pos force -ℤ axial) ≤ force + natAbs axial
+    by-sign (pos zero) = omega arith
+    by-sign (pos (suc n)) = by-test (ltb force (suc n))
+      where
+        by-test : (less : Bool) → newtonsOf (cond less (negsuc (suc n - suc force)) (pos (force - suc n))) ≤ force + suc n
+        by-test true = omega arith
+        by-test false = omega arith
+    by-sign (negsuc n) = omega arith

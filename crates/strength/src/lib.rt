@@ -53,7 +53,7 @@ pub fn steel_strengths(column: Column, beam: Beam, plate: Plate) -> SteelStrengt
 }
 
 // Table 9, thickness in tenths of a millimetre.
-fn steel_strength(grade: u32, thickness: u32) -> u64
+pub fn steel_strength(grade: u32, thickness: u32) -> u64
     ensures { λ r. ⌜ r ≡ steelStrength grade thickness ⌝ }
 {
     match grade {

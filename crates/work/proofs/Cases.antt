@@ -1,0 +1,65 @@
+-- Work's definition case by case: a face that is refused and one that isn't, and a joint that has one face alone. Assumes nothing.
+use mathlib.Core.Path.{_≡_, sym, ap, _∙_}
+use mathlib.Core.Bool.{Bool, true, false}
+use Prim.Native.Nat.{ℕ}
+use native.Mathlib.Omega.{arith}
+use borrow.Author.Tests.{eq-eqb, ne-eqb}
+use Rattle.joint.specs.Faces.{twoFaced, withRows, firstFace}
+use Rattle.joint.specs.declared.Bolts.{Bolts}
+use Rattle.joint.specs.declared.Column.{Column}
+use Rattle.joint.specs.declared.Face.{Face}
+use Rattle.joint.specs.declared.Joint.{Joint}
+use Rattle.joint.proofs.Faces.{rows-as-stored}
+use Rattle.connection.specs.Connection.{refusedOutcome, workedConnection}
+use Rattle.outcome.specs.declared.FaceResult.{FaceResult}
+use Rattle.outcome.specs.declared.Outcome.{Outcome}
+use Rattle.work.specs.Work.{ifTaken, bothTaken, workedSecond, workedFaces, worked}
+
+-- ---- a face that may be refused
+
+module _ (face : ℕ) (next : FaceResult → Outcome) {answer outcome : Outcome} (e : answer ≡ outcome) where
+  if-refused : (answer .refusal .number ≡ 0 → ⊥)
+      → refusedOutcome (answer .refusal .number) (answer .refusal .field) face ≡ ifTaken face outcome next
+  if-refused some = rw (sym e, ne-eqb (answer .refusal .number) 0 some)
+
+  if-taken : answer .refusal .number ≡ 0 → next (answer .result) ≡ ifTaken face outcome next
+  if-taken none = rw (sym e, eq-eqb (answer .refusal .number) 0 none)
+
+-- ---- two faces, one after the other
+
+module _ (column : Column) (bolts : Bolts) (first second : Face) {one : Outcome} (e : one ≡ workedConnection false column bolts first) where
+  pub first-refused : (one .refusal .number ≡ 0 → ⊥)
+      → refusedOutcome (one .refusal .number) (one .refusal .field) 1 ≡ workedFaces column bolts first second
+  unfolding workedFaces
+  first-refused some = if-refused 1 (workedSecond column bolts first second) e some
+
+  module _ (none : one .refusal .number ≡ 0) {two : Outcome} (e′ : two ≡ workedConnection false column bolts second) where
+    pub second-refused : (two .refusal .number ≡ 0 → ⊥)
+        → refusedOutcome (two .refusal .number) (two .refusal .field) 2 ≡ workedFaces column bolts first second
+    unfolding workedFaces
+    second-refused some = if-refused 2 (bothTaken column first second (one .result)) e′ some ∙ if-taken 1 (workedSecond column bolts first second) e none
+
+    pub both-taken : two .refusal .number ≡ 0
+        → bothTaken column first second (one .result) (two .result) ≡ workedFaces column bolts first second
+    unfolding workedFaces
+    both-taken none′ = if-taken 2 (bothTaken column first second (one .result)) e′ none′ ∙ if-taken 1 (workedSecond column bolts first second) e none
+
+-- ---- one face alone
+
+pub first-alone : (face : Face) → twoFaced (face .rows) ≡ false → face ≡ firstFace face
+unfolding firstFace
+first-alone face alone = ap (withRows face) (sym (rows-as-stored (face .rows) alone))
+
+module _ (joint : Joint) where
+  pub of-two : twoFaced (joint .face .rows) ≡ true
+      → workedFaces (joint .column) (joint .bolts) (firstFace (joint .face)) (joint .other) ≡ worked joint
+  unfolding worked
+  of-two both = rw both
+
+  pub of-one : twoFaced (joint .face .rows) ≡ false → workedConnection true (joint .column) (joint .bolts) (joint .face) ≡ worked joint
+  unfolding worked
+  of-one alone = ap (workedConnection true (joint .column) (joint .bolts)) (first-alone (joint .face) alone) ∙ (rw alone)
+
+-- field 1 doesn't say both
+pub not-both : {test : Bool} → test ≡ true → test ≡ false → ⊥
+not-both e e′ = let never : _≡_ {A = ℕ} 0 1 = cc in absurd (omega arith)

@@ -1,0 +1,2 @@
+-- The cases of Work's definition. They assume nothing.
+pub mod Cases

@@ -1,0 +1,83 @@
+-- `work` meets its contract: field 1 tells whether there are two faces, and demand 3 is that of the call for one face or for both.
+-- Assumes nothing.
+use mathlib.Core.Path.{_≡_, sym, ap, subst, _∙_}
+use mathlib.Core.Bool.{Bool, true, false}
+use Prim.Native.Nat.{ℕ}
+use native.Mathlib.Omega.{arith}
+use Rattle.joint.specs.Faces.{twoFaced}
+use Rattle.joint.specs.declared.Face.{Face}
+use Rattle.connection.specs.Demand.{Demand3For}
+use Rattle.work.specs.Work.{workedFaces}
+use Rattle.work.specs.Demand.{FacesDemand3}
+use Rattle.work.proofs.Cases.{of-two, of-one, first-alone, not-both}
+use borrow.Author.Needs.{needs}
+use Rattle.work.proofs.work.Statement.{statement}
+use Rattle.work.proofs.work.Tie as tie
+
+-- ---- the places
+
+abbrev start : tie.After-is-two-faced → tie.Start
+start c = c .before .before
+
+abbrev with-both : tie.After-first-face → tie.Then1
+with-both c = c .before .before
+
+-- ---- what field 1 says
+
+two-faced : (c : tie.Then1) → twoFaced (start (c .before) .args .joint .face .rows) ≡ true
+two-faced c = sym (c .before .is-two-faced .ensures) ∙ c .if1 .taken
+
+alone : (c : tie.Else1) → twoFaced (start (c .before) .args .joint .face .rows) ≡ false
+alone c = sym (c .before .is-two-faced .ensures) ∙ c .if1 .left
+
+-- ---- the needs
+
+is-two-faced-requires : tie.Need-is-two-faced-requires
+is-two-faced-requires c κs = search needs
+
+first-face-requires : tie.Need-first-face-requires
+first-face-requires c κs = search needs
+
+work-faces-requires : tie.Need-work-faces-requires
+work-faces-requires c κs = search needs
+
+returns : tie.Need-returns
+returns c =
+    let both = with-both (c .before) in
+    let j = start (both .before) .args .joint in
+    let first = c .before .first-face .ensures in (
+      c .work-faces .ensures .0 ∙ ap (λ (face : Face). workedFaces (j .column) (j .bolts) face (j .other)) first ∙ of-two j (two-faced both),
+      (λ none. record {
+        one-face = λ one. absurd (not-both (two-faced both) one);
+        two-faces = λ two.
+            subst (λ (face : Face). FacesDemand3 (j .column) (j .bolts) face (j .other) (c .work-faces .result)) first
+            (c .work-faces .ensures .1 none);
+      }),
+    )
+
+work-connection-requires : tie.Need-work-connection-requires
+work-connection-requires c κs = search needs
+
+returns-2 : tie.Need-returns-2
+returns-2 c =
+    let one = c .before in
+    let j = start (one .before) .args .joint in (
+      c .work-connection .ensures .0 ∙ of-one j (alone one),
+      (λ none. record {
+        one-face = λ same.
+            subst (λ (face : Face). Demand3For true (j .column) (j .bolts) face (c .work-connection .result .result))
+            (first-alone (j .face) (alone one)) (c .work-connection .ensures .1 none);
+        two-faces = λ two. absurd (not-both two (alone one));
+      }),
+    )
+
+pub work-spec : {M : Type 1} → statement M
+work-spec =
+    tie.close
+    (tie.spec
+    is-two-faced-requires
+    first-face-requires
+    work-faces-requires
+    returns
+    work-connection-requires
+    returns-2)

@@ -1,0 +1,56 @@
+-- Working a joint (rules 11): a face on its own, or two of them and the panel between them. Assumes nothing.
+use Prim.Native.Nat.{ℕ}
+use mathlib.Core.Bool.{Bool, true, false, cond}
+use lib.Dec.{eqb}
+use Rattle.joint.specs.Faces.{twoFaced, firstFace}
+use Rattle.joint.specs.declared.Bolts.{Bolts}
+use Rattle.joint.specs.declared.Column.{Column}
+use Rattle.joint.specs.declared.Face.{Face}
+use Rattle.joint.specs.declared.Joint.{Joint}
+use Rattle.joint.specs.declared.Loads.{Loads}
+use Rattle.strength.specs.Steel.{steelStrength}
+use Rattle.compression.specs.Compression.{panelShear}
+use Rattle.panel.specs.Panel.{governingTotal, panelPasses}
+use Rattle.connection.specs.Connection.{refusedOutcome, workedConnection}
+use Rattle.outcome.specs.declared.FaceResult.{FaceResult}
+use Rattle.outcome.specs.declared.Outcome.{Outcome}
+use Rattle.outcome.specs.declared.PanelVerdict.{PanelVerdict}
+use Rattle.outcome.specs.declared.PanelVerdict.the-variants.{Passes, Fails}
+
+-- rule 8.6: the panel's verdict, by the sums of forces and the loads of the two faces
+unfoldable pub panelVerdict : Column → (firstSum : ℕ) (first : Loads) (secondSum : ℕ) (second : Loads) → PanelVerdict
+panelVerdict column firstSum first secondSum second =
+    let shear = panelShear (steelStrength (column .grade) (column .flange)) column in
+    cond (panelPasses shear (governingTotal firstSum first) (governingTotal secondSum second)) Passes Fails
+
+-- rule 11.9: what comes of a face where it may be refused, its number told with the refusal; and else what comes after it
+abbrev pub ifTaken : (face : ℕ) → Outcome → (FaceResult → Outcome) → Outcome
+ifTaken face outcome next =
+    cond (eqb (outcome .refusal .number) 0) (next (outcome .result))
+    (refusedOutcome (outcome .refusal .number) (outcome .refusal .field) face)
+
+-- the whole answer of two faces that are both taken
+abbrev pub bothTaken : Column → (first second : Face) (result other : FaceResult) → Outcome
+bothTaken column first second result other = record {
+  refusal = record { number = 0; field = 0; face = 0 };
+  result = result;
+  other = other;
+  panel = panelVerdict column (result .sum) (first .loads) (other .sum) (second .loads);
+}
+
+-- rules 5.10 and 11.9: panel shear counts in neither's cap, and all of the first face's refusals come before the second's
+abbrev pub workedSecond : Column → Bolts → (first second : Face) (result : FaceResult) → Outcome
+workedSecond column bolts first second result =
+    ifTaken 2 (workedConnection false column bolts second) (bothTaken column first second result)
+
+unfoldable pub workedFaces : Column → Bolts → (first second : Face) → Outcome
+workedFaces column bolts first second =
+    ifTaken 1 (workedConnection false column bolts first) (workedSecond column bolts first second)
+
+-- A joint, by field 1: where it has one face nothing of a second is looked at, and panel shear counts.
+unfoldable pub worked : Joint → Outcome
+worked joint =
+    let first = firstFace (joint .face) in
+    cond (twoFaced (joint .face .rows))
+    (workedFaces (joint .column) (joint .bolts) first (joint .other))
+    (workedConnection true (joint .column) (joint .bolts) first)

@@ -1,0 +1,81 @@
+// Work: one joint worked whole (rules 11), with a beam on one face of the column or on both. Each face is a connection worked on the
+// shared column and bolts; of two, the panel between them is judged.
+ghost use mathlib.Core.Path.{_≡_};
+ghost use Rattle.joint.specs.InRange.{ColumnInRange};
+ghost use Rattle.panel.specs.Asked.{PanelAsked};
+ghost use Rattle.work.specs.Work.{panelVerdict, workedFaces, worked};
+ghost use Rattle.work.specs.Demand.{FacesDemand3, Demand3Of};
+use connection::refused;
+use connection::work_connection;
+use joint::Bolts;
+use joint::Column;
+use joint::Face;
+use joint::Joint;
+use joint::Loads;
+use outcome::Outcome;
+use outcome::PanelVerdict;
+use outcome::Refusal;
+
+// Works any joint: the whole result, or the first refusal in their order that holds. The row forces are the best there are:
+// demand 3, in specs/Demand.antt. Of a joint with one face nothing of a second is looked at.
+pub fn work(joint: Joint) -> Outcome
+    ensures equals { λ r. ⌜ r ≡ worked joint ⌝ }
+    ensures demand { λ r. ⌜ (r .refusal .number ≡ 0 → Demand3Of joint r) ⌝ }
+{
+    let face = joint.face;
+    if joint::is_two_faced(face.rows) {
+        let other = joint.other;
+        return work_faces(joint.column, joint.bolts, joint::first_face(face), other);
+    }
+    work_connection(true, joint.column, joint.bolts, face)
+}
+
+// Both faces, the first before the second. Panel shear counts in neither's cap.
+fn work_faces(column: Column, bolts: Bolts, first: Face, second: Face) -> Outcome
+    ensures equals { λ r. ⌜ r ≡ workedFaces column bolts first second ⌝ }
+    ensures demand { λ r. ⌜ (r .refusal .number ≡ 0 → FacesDemand3 column bolts first second r) ⌝ }
+{
+    let one = work_connection(false, column, bolts, first);
+    let why = one.refusal;
+    if why.number != 0 {
+        return refused(why.number, why.field, 1);
+    }
+    let two = work_connection(false, column, bolts, second);
+    let why_second = two.refusal;
+    if why_second.number != 0 {
+        return refused(why_second.number, why_second.field, 2);
+    }
+    let result = one.result;
+    let other = two.result;
+    let panel = panel_verdict(column, result.sum, first.loads, other.sum, second.loads);
+    Outcome {
+        refusal: Refusal {
+            number: 0,
+            field: 0,
+            face: 0,
+        },
+        result,
+        other,
+        panel,
+    }
+}
+
+// The panel's verdict, by the sums of forces and the loads of two faces that aren't refused.
+fn panel_verdict(
+    column: Column,
+    first_sum: u64,
+    first: Loads,
+    second_sum: u64,
+    second: Loads,
+) -> PanelVerdict
+    requires { ⌜ ColumnInRange column × PanelAsked «first_sum» first «second_sum» second ⌝ }
+    ensures { λ r. ⌜ r ≡ panelVerdict column «first_sum» first «second_sum» second ⌝ }
+{
+    let strength = strength::steel_strength(column.grade, column.flange);
+    let shear = compression::panel_shear(strength, column);
+    if panel::panel_passes(shear, first_sum, first, second_sum, second) {
+        PanelVerdict::Passes
+    } else {
+        PanelVerdict::Fails
+    }
+}
