@@ -1,7 +1,7 @@
--- `put_outcome` meets its contract: the line is that of the result or of the refusal. Assumes nothing.
+-- `put_outcome` meets its contract: the lines are those of the faces, or that of the refusal. Assumes nothing.
 use mathlib.Core.Path.{_≡_}
-use Rattle.line.specs.Line.{resultLine, refusalLine, refusalItems, outcomeLine}
-use Rattle.line.proofs.Lines.{outcome-result, outcome-refusal}
+use Rattle.line.specs.Line.{refusalLine, refusalItems, faceLines, outcomeLines, concatenated}
+use Rattle.line.proofs.Lines.{outcome-faces, outcome-refusal}
 use borrow.Author.Needs.{needs}
 use Rattle.line.proofs.put_outcome.Statement.{statement}
 use Rattle.line.proofs.put_outcome.Tie as tie
@@ -11,34 +11,36 @@ use Rattle.line.proofs.put_outcome.Tie as tie
 abbrev start : tie.After-struct-known → tie.Start
 start c = c .before .before .before
 
-abbrev passed : tie.After-put-result-arg → tie.Then1
-passed c = c .before .before
+abbrev passed : tie.After-put-faces-arg → tie.Then1
+passed c = c .before
 
 abbrev turned-down : tie.After-put-work-refusal-arg → tie.Else1
 turned-down c = c .before
 
--- ---- which line it is
+-- ---- which lines they are
 
-result-shown : (c : tie.After-put-result-arg)
+faces-shown : (c : tie.After-put-faces-arg)
     → let args = start (passed c .before) .args in
-    outcomeLine (args .number) (args .rows) (args .outcome) ≡ resultLine (args .number) (args .rows) (args .outcome .result)
-result-shown c = outcome-result _ _ _ (passed c .if1 .taken)
+    outcomeLines (args .number) (args .rows) (args .other-rows) (args .outcome)
+    ≡ faceLines (args .number) (args .rows) (args .other-rows) (args .outcome)
+faces-shown c = outcome-faces _ _ _ _ (passed c .if1 .taken)
 
 refusal-shown : (c : tie.After-put-work-refusal-arg)
     → let args = start (turned-down c .before) .args in
-    outcomeLine (args .number) (args .rows) (args .outcome) ≡ refusalLine (args .number) (refusalItems (args .outcome .refusal))
-refusal-shown c = outcome-refusal _ _ _ (turned-down c .if1 .left)
+    concatenated (outcomeLines (args .number) (args .rows) (args .other-rows) (args .outcome))
+    ≡ refusalLine (args .number) (refusalItems (args .outcome .refusal))
+refusal-shown c = outcome-refusal _ _ _ _ (turned-down c .if1 .left)
 
 -- ---- the needs
 
-put-result-requires : tie.Need-put-result-requires
-put-result-requires c κs = rw (result-shown c) at (start (passed c .before) .pre)
+put-faces-requires : tie.Need-put-faces-requires
+put-faces-requires c κs = rw (faces-shown c) at (start (passed c .before) .pre)
 
 same-length : tie.Need-same-length
 same-length c = search needs
 
 returns : tie.Need-returns
-returns c = rw (result-shown (c .before .before .before)) (c .before .before .put-result .ensures)
+returns c = rw (faces-shown (c .before .before .before)) (c .before .before .put-faces .ensures)
 
 put-work-refusal-requires : tie.Need-put-work-refusal-requires
 put-work-refusal-requires c κs = rw (refusal-shown c) at (start (turned-down c .before) .pre)
@@ -53,7 +55,7 @@ pub put-outcome-spec : {M : Type 1} → statement M
 put-outcome-spec =
     tie.close
     (tie.spec
-    put-result-requires
+    put-faces-requires
     same-length
     returns
     put-work-refusal-requires

@@ -9,7 +9,7 @@ use Rattle.buffers.proofs.Puts.{put-both, put-byte, put-length, room-first, roo
 use Rattle.items.specs.Items.{letter}
 use Rattle.items.specs.Digits.{decimal}
 use Rattle.items.proofs.Items.{items}
-use Rattle.line.specs.Line.{lettersOf, figuresOf}
+use Rattle.line.specs.Line.{figuresOf, shownLetters}
 use Rattle.line.proofs.Lines.{opening, result-parts}
 use borrow.Author.Needs.{needs}
 use Rattle.line.proofs.put_result.Statement.{statement}
@@ -20,8 +20,8 @@ use Rattle.line.proofs.put_result.Tie as tie
 abbrev start : tie.After-figures-of → tie.Start
 start c = c .before .before .before
 
-abbrev letters-known : tie.After-put-rows → tie.After-letters-of
-letters-known c = c .before .before
+abbrev figures-known : tie.After-put-rows → tie.After-figures-of
+figures-known c = c .before .before
 
 abbrev rows-put : tie.After-put-numbers-arg → tie.After-put-rows
 rows-put c = c .before .before .before
@@ -29,36 +29,36 @@ rows-put c = c .before .before .before
 abbrev before-figures : tie.After-put-numbers → tie.After-put-numbers-arg
 before-figures c = c .before .before
 
-abbrev figures-put : tie.After-put-letters-arg → tie.After-put-numbers
+abbrev figures-put : tie.After-put-face-letters-arg → tie.After-put-numbers
 figures-put c = c .before .before .before
 
-abbrev before-letters : tie.After-put-letters → tie.After-put-letters-arg
-before-letters c = c .before .before
+abbrev before-letters : tie.After-put-face-letters → tie.After-put-face-letters-arg
+before-letters c = c .before
 
-abbrev letters-put : tie.After-slice-known4 → tie.After-put-letters
+abbrev letters-put : tie.After-slice-known4 → tie.After-put-face-letters
 letters-put c = c .before .before
 
 -- the start, from each place on the way
 abbrev rows-start : tie.After-put-rows → tie.Start
-rows-start c = start (letters-known c .before)
+rows-start c = start (figures-known c)
 
 abbrev figures-start : tie.After-put-numbers → tie.Start
 figures-start c = rows-start (rows-put (before-figures c))
 
-abbrev letters-start : tie.After-put-letters → tie.Start
+abbrev letters-start : tie.After-put-face-letters → tie.Start
 letters-start c = figures-start (figures-put (before-letters c))
 
 -- ---- what is left to put has room, place by place
 
 abbrev letters-end : tie.Start → List ℕ
-letters-end s = items letter (lettersOf (s .args .result)) ++ (10 ∷ [])
+letters-end s = items letter (shownLetters (s .args .result) (s .args .panel)) ++ (10 ∷ [])
 
 room-whole : (s : tie.Start)
     → s .args .from
     + length
     (opening (s .args .number) (s .args .rows) (s .args .result .forces) ++ (items decimal (figuresOf (s .args .result)) ++ letters-end s))
     ≤ length (now (s .args .buffer))
-room-whole s = rw (result-parts (s .args .number) (s .args .rows) (s .args .result)) at (s .pre)
+room-whole s = rw (result-parts (s .args .number) (s .args .rows) (s .args .result) (s .args .panel)) at (s .pre)
 
 room-figures : (c : tie.After-put-rows)
     → c .put-rows .result + length (items decimal (figuresOf (rows-start c .args .result)) ++ letters-end (rows-start c))
@@ -70,34 +70,23 @@ figured : (c : tie.After-put-numbers)
     → let rows = rows-put (before-figures c) in
     Put (rows .put-rows .last .0) (rows .put-rows .result) (items decimal (figuresOf (figures-start c .args .result)))
     (c .put-numbers .last .0) (c .put-numbers .result)
-figured c = rw (letters-known (rows-put (before-figures c)) .before .figures-of .ensures) at (c .put-numbers .ensures)
+figured c = rw (figures-known (rows-put (before-figures c)) .figures-of .ensures) at (c .put-numbers .ensures)
 
 room-letters : (c : tie.After-put-numbers)
     → c .put-numbers .result + length (letters-end (figures-start c)) ≤ length (c .put-numbers .last .0)
 room-letters c = room-after _ (figured c) (room-figures (rows-put (before-figures c)))
 
--- the letters that were put are the line's
-lettered : (c : tie.After-put-letters)
-    → Put (figures-put (before-letters c) .put-numbers .last .0) (figures-put (before-letters c) .put-numbers .result)
-    (items letter (lettersOf (letters-start c .args .result))) (c .put-letters .last .0) (c .put-letters .result)
-lettered c =
-    let figures = figures-put (before-letters c) in
-    rw (letters-known (rows-put (before-figures figures)) .letters-of .ensures) at (c .put-letters .ensures)
-
-room-end : (c : tie.After-put-letters) → c .put-letters .result + 1 ≤ length (c .put-letters .last .0)
-room-end c = room-after (10 ∷ []) (lettered c) (room-letters (figures-put (before-letters c)))
+room-end : (c : tie.After-put-face-letters) → c .put-face-letters .result + 1 ≤ length (c .put-face-letters .last .0)
+room-end c = room-after (10 ∷ []) (c .put-face-letters .ensures) (room-letters (figures-put (before-letters c)))
 
 -- ---- the needs
 
 figures-of-requires : tie.Need-figures-of-requires
 figures-of-requires c κs = search needs
 
-letters-of-requires : tie.Need-letters-of-requires
-letters-of-requires c κs = search needs
-
 put-rows-requires : tie.Need-put-rows-requires
 put-rows-requires c κs =
-    let s = start (c .before .before) in
+    let s = start (c .before) in
     room-first (opening (s .args .number) (s .args .rows) (s .args .result .forces)) _ _ _ (room-whole s)
 
 slice-aggregate-put-numbers : tie.Need-slice-aggregate-put-numbers
@@ -106,17 +95,14 @@ slice-aggregate-put-numbers c = search needs
 put-numbers-requires : tie.Need-put-numbers-requires
 put-numbers-requires c κs =
     let rows = rows-put (c .before) in
-    rw (letters-known rows .before .figures-of .ensures)
+    rw (figures-known rows .figures-of .ensures)
     (room-first (items decimal (figuresOf (rows-start rows .args .result))) _ _ _ (room-figures rows))
 
-slice-aggregate-put-letters : tie.Need-slice-aggregate-put-letters
-slice-aggregate-put-letters c = search needs
-
-put-letters-requires : tie.Need-put-letters-requires
-put-letters-requires c κs =
-    let figures = figures-put (c .before) in
-    rw (letters-known (rows-put (before-figures figures)) .letters-of .ensures)
-    (room-first (items letter (lettersOf (figures-start figures .args .result))) (10 ∷ []) _ _ (room-letters figures))
+put-face-letters-requires : tie.Need-put-face-letters-requires
+put-face-letters-requires c κs =
+    let figures = figures-put c in
+    let args = figures-start figures .args in
+    room-first (items letter (shownLetters (args .result) (args .panel))) (10 ∷ []) _ _ (room-letters figures)
 
 slice-write-buffer : tie.Need-slice-write-buffer
 slice-write-buffer c = omega (arith, room-end (letters-put c))
@@ -124,16 +110,16 @@ slice-write-buffer c = omega (arith, room-end (letters-put c))
 add-result : tie.Need-add-result
 add-result c =
     let letters = letters-put c in
-    omega (arith, room-end letters, letters .put-letters .kept .0, letters-start letters .good)
+    omega (arith, room-end letters, letters .put-face-letters .kept .0, letters-start letters .good)
 
 returns : tie.Need-returns
 returns c =
     let letters = letters-put c in
     let figures = figures-put (before-letters letters) in
     let args = letters-start letters .args in
-    rw (result-parts (args .number) (args .rows) (args .result))
+    rw (result-parts (args .number) (args .rows) (args .result) (args .panel))
     (put-both (rows-put (before-figures figures) .put-rows .ensures)
-    (put-both (figured figures) (put-both (lettered letters) (put-byte _ _ 10))))
+    (put-both (figured figures) (put-both (letters .put-face-letters .ensures) (put-byte _ _ 10))))
 
 same-length : tie.Need-same-length
 same-length c = put-length (returns c)
@@ -143,12 +129,10 @@ put-result-spec =
     tie.close
     (tie.spec
     figures-of-requires
-    letters-of-requires
     put-rows-requires
     slice-aggregate-put-numbers
     put-numbers-requires
-    slice-aggregate-put-letters
-    put-letters-requires
+    put-face-letters-requires
     slice-write-buffer
     add-result
     same-length

@@ -1,51 +1,29 @@
--- `put_work_refusal` meets its contract: 10 shows its field, and any other refusal its number alone. Assumes nothing.
-use mathlib.Core.Path.{_≡_, sym, _∙_}
-use mathlib.Core.List.{[], _∷_}
-use Rattle.line.specs.Line.{refusalItems}
-use Rattle.line.proofs.Lines.{items-field, items-number}
+-- `put_work_refusal` meets its contract: the line shows the numbers at the front of their places. Assumes nothing.
+use mathlib.Core.Path.{sym}
+use native.Mathlib.Omega.{arith}
+use lib.Seq.{length-take-le}
 use borrow.Author.Needs.{needs}
 use Rattle.line.proofs.put_work_refusal.Statement.{statement}
 use Rattle.line.proofs.put_work_refusal.Tie as tie
 
--- ---- the places of the walk, each a step from the one before it
-
-abbrev start : tie.After-shows-field → tie.Start
+abbrev start : tie.After-shown-of → tie.Start
 start c = c .before .before
 
-abbrev with-field : tie.After-put-refusal-arg → tie.Then1
-with-field c = c .before .before .before
+shown-of-requires : tie.Need-shown-of-requires
+shown-of-requires c κs = search needs
 
-abbrev with-number : tie.After-put-read-refusal-arg → tie.Else1
-with-number c = c .before
-
--- ---- what the refusal shows
-
-field-shown : (c : tie.After-put-refusal-arg)
-    → let refusal = start (with-field c .before) .args .refusal in
-    refusalItems refusal ≡ refusal .number ∷ refusal .field ∷ []
-field-shown c = items-field _ (sym (with-field c .before .shows-field .ensures) ∙ with-field c .if1 .taken)
-
-number-shown : (c : tie.After-put-read-refusal-arg)
-    → let refusal = start (with-number c .before) .args .refusal in
-    refusalItems refusal ≡ refusal .number ∷ []
-number-shown c = items-number _ (sym (with-number c .before .shows-field .ensures) ∙ with-number c .if1 .left)
-
--- ---- the needs
-
-shows-field-requires : tie.Need-shows-field-requires
-shows-field-requires c κs = search needs
-
-cast-t7 : tie.Need-cast-t7
-cast-t7 c = search needs
-
-cast-t8 : tie.Need-cast-t8
-cast-t8 c = search needs
+array-share-prefix-numbers : tie.Need-array-share-prefix-numbers
+array-share-prefix-numbers c = search needs
 
 slice-aggregate-put-refusal : tie.Need-slice-aggregate-put-refusal
-slice-aggregate-put-refusal c = search needs
+slice-aggregate-put-refusal c =
+    let shown = c .before .before .before .shown-of .ensures in
+    sym (length-take-le _ _ (omega (arith, shown .0 .1, shown .1)))
 
 put-refusal-requires : tie.Need-put-refusal-requires
-put-refusal-requires c κs = rw (field-shown (c .before)) at (start (with-field (c .before) .before) .pre)
+put-refusal-requires c κs =
+    let shown = c .before .before .before in
+    rw (shown .shown-of .ensures .0 .0) (start shown .pre)
 
 same-length : tie.Need-same-length
 same-length c = search needs
@@ -53,30 +31,16 @@ same-length c = search needs
 returns : tie.Need-returns
 returns c =
     let put = c .before .before in
-    rw (field-shown (put .before .before)) (put .put-refusal .ensures)
-
-put-read-refusal-requires : tie.Need-put-read-refusal-requires
-put-read-refusal-requires c κs = rw (number-shown c) at (start (with-number c .before) .pre)
-
-same-length-2 : tie.Need-same-length-2
-same-length-2 c = search needs
-
-returns-2 : tie.Need-returns-2
-returns-2 c =
-    let put = c .before .before in
-    rw (number-shown (put .before)) (put .put-read-refusal .ensures)
+    let shown = put .before .before .before .before in
+    rw (shown .shown-of .ensures .0 .0) at (put .put-refusal .ensures)
 
 pub put-work-refusal-spec : {M : Type 1} → statement M
 put-work-refusal-spec =
     tie.close
     (tie.spec
-    shows-field-requires
-    cast-t7
-    cast-t8
+    shown-of-requires
+    array-share-prefix-numbers
     slice-aggregate-put-refusal
     put-refusal-requires
     same-length
-    returns
-    put-read-refusal-requires
-    same-length-2
-    returns-2)
+    returns)

@@ -1,67 +1,43 @@
--- `work_refusal_size` meets its contract: 10 shows its field, and any other refusal its number alone. Assumes nothing.
-use Prim.Native.Nat.{ℕ}
+-- `work_refusal_size` meets its contract: the line shows the numbers at the front of their places. Assumes nothing.
 use mathlib.Core.Path.{sym, ap, _∙_}
 use mathlib.Core.List.{List}
-use lib.ListN.{length}
+use native.Mathlib.Omega.{arith}
+use Prim.Native.Nat.{ℕ}
+use lib.ListN.{length, length-take}
+use lib.Seq.{length-take-le}
 use Rattle.line.specs.Line.{refusalLine}
-use Rattle.line.proofs.Lines.{items-field, items-number}
 use borrow.Author.Needs.{needs}
 use Rattle.line.proofs.work_refusal_size.Statement.{statement}
 use Rattle.line.proofs.work_refusal_size.Tie as tie
 
--- ---- the places of the walk, each a step from the one before it
+shown-of-requires : tie.Need-shown-of-requires
+shown-of-requires c κs = search needs
 
-abbrev asked : tie.Then1 → tie.After-shows-field
-asked c = c .before
-
-abbrev with-field : tie.After-items → tie.Then1
-with-field c = c .before .before .before
-
--- ---- the needs
-
-shows-field-requires : tie.Need-shows-field-requires
-shows-field-requires c κs = search needs
-
-cast-t5 : tie.Need-cast-t5
-cast-t5 c = search needs
-
-cast-t6 : tie.Need-cast-t6
-cast-t6 c = search needs
+array-share-prefix-numbers : tie.Need-array-share-prefix-numbers
+array-share-prefix-numbers c = search needs
 
 slice-aggregate-refusal-size : tie.Need-slice-aggregate-refusal-size
-slice-aggregate-refusal-size c = search needs
+slice-aggregate-refusal-size c =
+    let shown = c .before .before .shown-of .ensures in
+    sym (length-take-le _ _ (omega (arith, shown .0 .1, shown .1)))
 
 refusal-size-requires : tie.Need-refusal-size-requires
-refusal-size-requires c κs = search needs
+refusal-size-requires c κs =
+    let shown = c .before .before .shown-of in
+    omega (arith, length-take (shown .result .count) (shown .result .numbers), shown .ensures .0 .1)
 
 returns : tie.Need-returns
 returns c =
-    let tested = with-field (c .before) in
-    let args = asked tested .before .args in
+    let shown = c .before .before .before in
     c .refusal-size .ensures
-    ∙ ap (λ (shown : List ℕ). length (refusalLine (args .number) shown))
-    (sym (items-field (args .refusal) (sym (asked tested .shows-field .ensures) ∙ tested .if1 .taken)))
-
-read-refusal-size-requires : tie.Need-read-refusal-size-requires
-read-refusal-size-requires c κs = search needs
-
-returns-2 : tie.Need-returns-2
-returns-2 c =
-    let tested = c .before in
-    let args = tested .before .before .args in
-    c .read-refusal-size .ensures
-    ∙ ap (λ (shown : List ℕ). length (refusalLine (args .number) shown))
-    (sym (items-number (args .refusal) (sym (tested .before .shows-field .ensures) ∙ tested .if1 .left)))
+    ∙ ap (λ (numbers : List ℕ). length (refusalLine (shown .before .args .number) numbers)) (shown .shown-of .ensures .0 .0)
 
 pub work-refusal-size-spec : {M : Type 1} → statement M
 work-refusal-size-spec =
     tie.close
     (tie.spec
-    shows-field-requires
-    cast-t5
-    cast-t6
+    shown-of-requires
+    array-share-prefix-numbers
     slice-aggregate-refusal-size
     refusal-size-requires
-    returns
-    read-refusal-size-requires
-    returns-2)
+    returns)
