@@ -1,4 +1,4 @@
--- A joint and a face's result as the words that the exported calls lend. Rule 13.3: `Words` has the joint's fields in
+-- A joint and what it comes to as the words that the exported calls lend. Rule 13.3: `Words` has the joint's fields in
 -- their order, `Results` the items of a result. Assumes nothing.
 pub mod Words
 pub mod Results

@@ -1,34 +1,44 @@
--- A joint as words: its fields in file order, all eight levers, N by its two's complement in 32 bits (rule 13.3).
+-- A joint as words: its fields in file order, all eight levers of each face, N by its two's complement in 32 bits (rule 13.3).
 -- Assumes nothing.
 use Prim.Native.Nat.{ℕ, _+_, _-_}
 use mathlib.Core.List.{List, _++_}
 use mathlib.Core.Bool.{cond}
 use lib.Dec.{ltb}
 use lib.IntN.{ℤ, pos, negsuc}
-use lib.ListN.{set, take, drop}
+use lib.ListN.{getD, set, take, drop}
+use Rattle.joint.specs.declared.Bolts.{Bolts}
+use Rattle.joint.specs.declared.Column.{Column}
+use Rattle.joint.specs.declared.Face.{Face}
 use Rattle.joint.specs.declared.Joint.{Joint}
-use Rattle.fields.specs.Fields.{fieldCount, field, storedAxial, jointOf, fieldsOf}
+use Rattle.fields.specs.Fields.{fieldCount, ownCount, storedAxial, jointOf, fieldsOf, ownOf}
 
--- how many words a joint is: its fields and eight levers
+-- how many words the fields with the first face's eight levers are
+abbrev pub firstWordCount : ℕ
+firstWordCount = fieldCount + 8
+
+-- how many a joint is: with those that a second face has of its own, and its eight levers
 abbrev pub jointWordCount : ℕ
-jointWordCount = fieldCount + 8
+jointWordCount = firstWordCount + (ownCount + 8)
 
 -- ---- the joint of words
+
+-- so many words from a place on
+abbrev pub wordsFrom : (from count : ℕ) → List ℕ → List ℕ
+wordsFrom from count words = take count (drop from words)
 
 -- the N that a word stands for. `negsuc n` is the integer -n - 1.
 unfoldable pub axialOfWord : ℕ → ℤ
 axialOfWord word = cond (ltb word 2147483648) (pos word) (negsuc (4294967295 - word))
 
--- The fields before the levers as the file has them: each is its word, and N is stored as the file stores it.
-unfoldable pub fieldsOfWords : List ℕ → List ℕ
-fieldsOfWords words = set (take fieldCount words) 26 (storedAxial (axialOfWord (field 27 words)))
+-- Fields as the file has them, from their words, of which one is N's: each is its word, and N is stored as the file stores it.
+unfoldable pub fieldsOfWords : (axial : ℕ) → List ℕ → List ℕ
+fieldsOfWords axial words = set words axial (storedAxial (axialOfWord (getD words axial 0)))
 
-unfoldable pub leversOfWords : List ℕ → List ℕ
-leversOfWords words = take 8 (drop fieldCount words)
-
--- the joint of its words
+-- the joint of its words; N, field 27, is the eighteenth of what a second face has of its own
 abbrev pub jointOfWords : List ℕ → Joint
-jointOfWords words = jointOf (fieldsOfWords words) (leversOfWords words)
+jointOfWords words =
+    jointOf (fieldsOfWords 26 (wordsFrom 0 fieldCount words)) (wordsFrom fieldCount 8 words)
+    (fieldsOfWords 17 (wordsFrom firstWordCount ownCount words)) (wordsFrom (firstWordCount + ownCount) 8 words)
 
 -- ---- the words of a joint
 
@@ -37,10 +47,13 @@ unfoldable pub wordOfAxial : ℤ → ℕ
 wordOfAxial (pos n) = n
 wordOfAxial (negsuc n) = 4294967295 - n
 
--- the words before the levers: the fields of the file, with N as a word
-unfoldable pub headOf : Joint → List ℕ
-headOf joint = set (fieldsOf joint) 26 (wordOfAxial (joint .face .loads .axial))
+-- the words before a face's levers: the fields of the file, with N as a word
+unfoldable pub headOf : Column → Bolts → Face → List ℕ
+headOf column bolts face = set (fieldsOf column bolts face) 26 (wordOfAxial (face .loads .axial))
 
--- the words of a joint
+-- the words of a joint: the fields and the first face's levers, and what the second face has of its own and its levers
 abbrev pub wordsOf : Joint → List ℕ
-wordsOf joint = headOf joint ++ joint .face .levers
+wordsOf joint =
+    let column = joint .column in
+    let bolts = joint .bolts in
+    (headOf column bolts (joint .face) ++ joint .face .levers) ++ (ownOf (headOf column bolts (joint .other)) ++ joint .other .levers)

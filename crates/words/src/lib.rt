@@ -1,4 +1,4 @@
-// A joint as words and back, a face's result as words, and numbers copied into a lent slice. What is open here is so for the crate
+// A joint as words and back, what it comes to as words, and numbers copied into a lent slice. What is open here is so for the crate
 // of calls, which shows that the slices are long enough.
 pub mod joints;
 pub mod put;

@@ -1,18 +1,24 @@
-// What a face comes to, as words.
+// What a joint comes to, as words: those of its first face, those of its second, and the panel's.
 ghost use mathlib.Core.Path.{_≡_};
-ghost use Prim.Native.Nat.{_≤_};
+ghost use Prim.Native.Nat.{_+_, _≤_};
 ghost use lib.ListN.{length};
+ghost use lib.Seq.{sets};
 ghost use Rattle.buffers.specs.Put.{atFront};
-ghost use Rattle.words.specs.Results.{resultWordCount, checkNumber, flag, figureWords, resultWords};
+ghost use Rattle.words.specs.Results.{faceWordCount, outcomeWordCount, checkNumber, flag, figureWords, resultWords};
+ghost use Rattle.words.specs.Results.{panelFlag, outcomeWords};
 use crate::put::put_eight_u64;
 use crate::put::put_u64;
 use governing::CompressionCheck;
 use outcome::FaceResult;
+use outcome::Outcome;
+use outcome::PanelVerdict;
 
-// The words after the forces, and all of them.
+// The words after the forces, all of a face's, and all of a joint's.
 const FIGURE_WORDS: usize = 9;
 
-pub const RESULT_WORDS: usize = 8 + FIGURE_WORDS;
+pub const FACE_WORDS: usize = 8 + FIGURE_WORDS;
+
+pub const OUTCOME_WORDS: usize = 2 * FACE_WORDS + 1;
 
 fn check_number(check: CompressionCheck) -> u64
     ensures { λ r. ⌜ r ≡ checkNumber check ⌝ }
@@ -56,13 +62,38 @@ fn figures_of(result: FaceResult) -> [u64; FIGURE_WORDS]
     ]
 }
 
-// Puts the words at the front of a slice.
-pub fn put_result(result: FaceResult, words: &mut [u64])
-    requires { ⌜ resultWordCount ≤ length (now words) ⌝ }
-    ensures { λ _. ⌜ (length (result .forces) ≡ 8) × (now (words .exit) ≡ atFront (resultWords result) (now (words .entry))) ⌝ }
+// Puts the words of a face from a place on.
+fn put_result(words: &mut [u64], at: usize, result: FaceResult)
+    requires { ⌜ at + faceWordCount ≤ length (now words) ⌝ }
+    ensures { λ _. ⌜ (now (words .exit) ≡ sets (now (words .entry)) at (resultWords result)) × (length (result .forces) ≡ 8) ⌝ }
 {
     let forces = result.forces;
     let figures = figures_of(result);
-    put_eight_u64(words, 0, forces);
-    put_u64(words, 8, &figures);
+    put_eight_u64(words, at, forces);
+    put_u64(words, at + 8, &figures);
+}
+
+fn panel_flag(panel: PanelVerdict) -> u64
+    ensures { λ r. ⌜ r ≡ panelFlag panel ⌝ }
+{
+    match panel {
+        PanelVerdict::NotAsked => 0,
+        PanelVerdict::Passes => 1,
+        PanelVerdict::Fails => 0,
+    }
+}
+
+// Puts the words of an outcome at the front of a slice.
+pub fn put_outcome(outcome: Outcome, words: &mut [u64])
+    requires { ⌜ outcomeWordCount ≤ length (now words) ⌝ }
+    ensures { λ _. ⌜ (length (outcome .result .forces) ≡ 8) × (length (outcome .other .forces) ≡ 8) ⌝ }
+    ensures { λ _. ⌜ now (words .exit) ≡ atFront (outcomeWords outcome) (now (words .entry)) ⌝ }
+{
+    let result = outcome.result;
+    let other = outcome.other;
+    let panel = outcome.panel;
+    let flag = panel_flag(panel);
+    put_result(words, 0, result);
+    put_result(words, FACE_WORDS, other);
+    words[2 * FACE_WORDS] = flag;
 }

@@ -23,7 +23,7 @@ array-write-head c = search needs
 returns : tie.Need-returns
 unfolding headOf
 returns c =
-    let axial = start (c .before) .args .joint .face .loads .axial in
+    let axial = start (c .before) .args .face .loads .axial in
     let back : toZ w32 (ofZ w32 axial) ≡ axial = search needs in
     rw (c .before .before .fields-of .ensures, c .word-of .ensures, back)
 
