@@ -1,6 +1,6 @@
 -- What field 1 says of the rows: marked counts are 17 to 24, and those less the mark are row counts. Assumes nothing.
-use mathlib.Core.Path.{_≡_, sym, _∙_}
-use mathlib.Core.Bool.{Bool, true, false, cond, and-eq-true-iff}
+use mathlib.Core.Path.{_≡_, refl}
+use mathlib.Core.Bool.{Bool, true, false, and-eq-true-iff}
 use Prim.Native.Nat.{ℕ, _-_, _≤_}
 use native.Mathlib.Omega.{arith}
 use borrow.Author.Tests.{leb-true}
@@ -21,3 +21,11 @@ rows-marked count e = rw e
 pub rows-as-stored : (count : ℕ) → twoFaced count ≡ false → firstRows count ≡ count
 unfolding firstRows
 rows-as-stored count e = rw e
+
+-- a count of a joint with rows from 1 to 8 is no greater than a marked one
+pub count-most : (count : ℕ) → firstRows count ≤ 8 → count ≤ markedCounts .high
+count-most count few = by-mark (twoFaced count) refl
+  where
+    by-mark : (mark : Bool) → twoFaced count ≡ mark → count ≤ markedCounts .high
+    by-mark true two = marked count two .high
+    by-mark false one = omega (arith, rows-as-stored count one)

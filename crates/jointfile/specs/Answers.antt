@@ -5,18 +5,15 @@ use mathlib.Core.List.{List, [], _∷_, _++_}
 use mathlib.Core.Bool.{Bool, true, false}
 use lib.ListN.{length, getD, drop}
 use Rattle.joint.specs.Faces.{twoFaced}
-use Rattle.joint.specs.declared.Bolts.{Bolts}
-use Rattle.joint.specs.declared.Column.{Column}
-use Rattle.joint.specs.declared.Face.{Face}
 use Rattle.joint.specs.declared.Joint.{Joint}
-use Rattle.numbers.specs.Parse.{Parse, got, refused, andThen}
+use Rattle.numbers.specs.Parse.{Parse, got, refused}
 use Rattle.numbers.specs.Run.{storedAll}
 use Rattle.numbers.specs.Answers.{endPlace}
 use Rattle.numbers.specs.declared.run.Run.{Run}
 use Rattle.numbers.specs.declared.run.Run.the-variants.{Next, Refused as RunRefused}
-use Rattle.fields.specs.Fields.{fieldCount, ownCount, secondFaceOf, jointOf, fieldsOf}
+use Rattle.fields.specs.Fields.{fieldCount, ownCount, secondFaceOf}
 use Rattle.jointfile.specs.File.{Part, lacking, storedFieldCount, noPart, readOthers, readPart}
-use Rattle.jointfile.specs.Write.{Writing, turnedDown, rowsCheck, spareCheck, roomCheck, tried}
+use Rattle.jointfile.specs.Write.{firstFields, secondFields, Writing, turnedDown, rowsCheck, spareCheck, roomCheck, tried}
 use Rattle.jointfile.specs.declared.FileKind.{FileKind}
 use Rattle.jointfile.specs.declared.Written.{Written}
 use Rattle.jointfile.specs.declared.Written.the-variants.{Length, Refused}
@@ -46,14 +43,12 @@ pub record PartRead (bytes : List ℕ) (from : ℕ) (first : Bool) (entry fields
   pub means : partMeaning bytes fields levers run ≡ readPart first (length entry - 1) (drop from bytes)
   pub within : endPlace run ≤ length bytes
 
--- What is read after the part of a first face that says that a second follows.
-unfoldable pub secondAfter : (fields levers bytes : List ℕ) → Parse Joint
-secondAfter fields levers bytes =
-    andThen (readPart false (ownCount - 1) bytes) (λ second rest. got (jointOf fields levers (second .fields) (second .levers)) rest)
+-- The bytes of the numbers of a part; and of a file: of the first face, and of the second, none where there is no second.
+abbrev pub partStored : (fields levers : List ℕ) → List ℕ
+partStored fields levers = storedAll fields ++ storedAll levers
 
--- The bytes of the numbers of a file: fields and levers of the first face, and those of the second, none where there is no second.
 abbrev pub numbersStored : (fields levers own others : List ℕ) → List ℕ
-numbersStored fields levers own others = (storedAll fields ++ storedAll levers) ++ (storedAll own ++ storedAll others)
+numbersStored fields levers own others = partStored fields levers ++ partStored own others
 
 -- The numbers of a file, no more than a file has, of which the first takes one byte.
 pub record FileParts (fields levers own others : List ℕ) : Type 0 where
@@ -64,28 +59,31 @@ pub record FileParts (fields levers own others : List ℕ) : Type 0 where
   pub own-few : length own ≤ ownCount
   pub other-rows : length others ≤ 8
 
--- A face that the program can hold, among the fields of a column and its bolts: eight levers, and each number of the file in 32 bits. Of N
--- that is the number that it is stored as, which takes 32 bits just where N is in the range of a signed field of 32.
-pub record FaceHeld (column : Column) (bolts : Bolts) (face : Face) : Type 0 where
-  pub eight : length (face .levers) ≡ 8
-  pub fields : (k : ℕ) → getD (fieldsOf column bolts face) k 0 < 2 ^ 32
-  pub levers : (k : ℕ) → getD (face .levers) k 0 < 2 ^ 32
+-- Numbers of a part that the program can hold: eight levers, and each number of the file in 32 bits. Of N that is the number that it is
+-- stored as, which takes 32 bits just where N is in the range of a signed field of 32.
+pub record PartHeld (numbers hs : List ℕ) : Type 0 where
+  pub eight : length hs ≡ 8
+  pub fields : (k : ℕ) → getD numbers k 0 < 2 ^ 32
+  pub levers : (k : ℕ) → getD hs k 0 < 2 ^ 32
 
 -- A joint that the program can hold.
 pub record Held (joint : Joint) : Type 0 where
-  pub first : FaceHeld (joint .column) (joint .bolts) (joint .face)
-  pub second : FaceHeld (joint .column) (joint .bolts) (joint .other)
+  pub first : PartHeld (firstFields joint) (joint .face .levers)
+  pub second : PartHeld (secondFields joint) (joint .other .levers)
 
 -- A joint that is refused by neither 3 nor 6.
 pub record Writable (joint : Joint) : Type 0 where
   pub rows : rowsCheck joint .1 ≡ true
   pub spare : spareCheck joint .1 ≡ true
 
--- A joint that a file of this kind tells whole: the fields that the file lacks are those that reading gives, and where there is no second
--- face, it is all 0.
+-- Where a joint has no second face, that is all 0, as reading gives it.
+abbrev pub OtherTold : Joint → Type 0
+OtherTold joint = twoFaced (joint .face .rows) ≡ false → joint .other ≡ secondFaceOf (noPart .fields) (noPart .levers)
+
+-- A joint that a file of this kind tells whole: the fields that the file lacks, and the face that it has none of, are as reading gives them.
 pub record ToldBy (kind : FileKind) (joint : Joint) : Type 0 where
-  pub lacks : drop (storedFieldCount kind) (fieldsOf (joint .column) (joint .bolts) (joint .face)) ≡ lacking kind
-  pub alone : twoFaced (joint .face .rows) ≡ false → joint .other ≡ secondFaceOf (noPart .fields) (noPart .levers)
+  pub lacks : drop (storedFieldCount kind) (firstFields joint) ≡ lacking kind
+  pub alone : OtherTold joint
 
 -- No file of the new kind is shorter: a byte for each field and for one lever; and with a second face, one for each field that it has of its
 -- own and for one lever of it.

@@ -3,7 +3,7 @@
 use Prim.Native.Nat.{ℕ, _-_}
 use mathlib.Core.List.{List, [], _∷_, _++_}
 use mathlib.Core.Bool.{Bool, true, false, cond}
-use lib.ListN.{length, getD, replicate}
+use lib.ListN.{length, replicate}
 use Rattle.arithmetic.specs.Range.{within}
 use Rattle.joint.specs.Ranges.{rowCounts}
 use Rattle.joint.specs.Faces.{twoFaced, firstRows}
@@ -12,7 +12,7 @@ use Rattle.joint.specs.declared.Joint.{Joint}
 use Rattle.numbers.specs.Parse.{Parse, got, refused, andThen}
 use Rattle.numbers.specs.Number.{readNumber}
 use Rattle.numbers.specs.Run.{readNumbers}
-use Rattle.fields.specs.Fields.{fieldCount, ownCount, jointOf}
+use Rattle.fields.specs.Fields.{fieldCount, field, ownCount, jointOf}
 use Rattle.jointfile.specs.declared.FileKind.{FileKind}
 use Rattle.jointfile.specs.declared.FileKind.the-variants.{Old, New}
 use Rattle.jointfile.specs.declared.Reading.{Reading}
@@ -59,24 +59,21 @@ readPart first others bytes =
 abbrev pub noPart : Part
 noPart = record { fields = replicate ownCount 0; levers = replicate 8 0 }
 
--- the joint of its parts; the first may lack fields
-abbrev pub jointOfParts : FileKind → (part second : Part) → Joint
-jointOfParts kind part second = jointOf (part .fields ++ lacking kind) (part .levers) (second .fields) (second .levers)
+-- rule 9.8: what follows the fields and the levers of the first face: where field 1 is marked, the part of the second, whose count isn't
+unfoldable pub readSecond : (fields levers bytes : List ℕ) → Parse Joint
+readSecond fields levers bytes =
+    cond (twoFaced (field 1 fields))
+    (andThen (readPart false (ownCount - 1) bytes) (λ second rest. got (jointOf fields levers (second .fields) (second .levers)) rest))
+    (got (jointOf fields levers (noPart .fields) (noPart .levers)) bytes)
 
--- rule 9.8: what follows the first part, where its row count is marked: that of the second face, whose count isn't
-unfoldable pub readSecond : FileKind → Part → List ℕ → Parse Joint
-readSecond kind part bytes =
-    cond (twoFaced (getD (part .fields) 0 0))
-    (andThen (readPart false (ownCount - 1) bytes) (λ second rest. got (jointOfParts kind part second) rest))
-    (got (jointOfParts kind part noPart) bytes)
-
--- A joint: the part of its first face, with the column and the bolts, and that of its second, if it has one.
+-- A joint: the part of its first face, with the column and the bolts, which may lack fields, and that of its second, if it has one.
 unfoldable pub readJoint : FileKind → List ℕ → Parse Joint
-readJoint kind bytes = andThen (readPart true (otherFieldCount kind) bytes) (readSecond kind)
+readJoint kind bytes =
+    andThen (readPart true (otherFieldCount kind) bytes) (λ part left. readSecond (part .fields ++ lacking kind) (part .levers) left)
 
 -- What stands in the joint's place in a refusal: every field is 0.
 unfoldable pub noJoint : Joint
-noJoint = jointOf (replicate fieldCount 0) (replicate 8 0) (replicate ownCount 0) (replicate 8 0)
+noJoint = jointOf (replicate fieldCount 0) (replicate 8 0) (noPart .fields) (noPart .levers)
 
 -- What `read` answers of bytes that end at `end`: 0, the joint and the place after it; or the refusal, no joint and the end.
 abbrev pub answer : ℕ → Parse Joint → Reading

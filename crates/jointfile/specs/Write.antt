@@ -17,21 +17,25 @@ use Rattle.jointfile.specs.File.{storedFieldCount}
 use Rattle.jointfile.specs.declared.FileKind.{FileKind}
 use Rattle.jointfile.specs.declared.FileKind.the-variants.{New}
 
+-- the numbers of a joint before the levers: those of the first face with the column and the bolts, and those that the second has of its own
+abbrev pub firstFields : Joint → List ℕ
+firstFields joint = fieldsOf (joint .column) (joint .bolts) (joint .face)
+
+abbrev pub secondFields : Joint → List ℕ
+secondFields joint = ownOf (fieldsOf (joint .column) (joint .bolts) (joint .other))
+
 -- the bytes of a part: its fields, and a lever for each row
 unfoldable pub partOf : (fields : List ℕ) (rows : ℕ) (levers : List ℕ) → List ℕ
-partOf fields rows levers = storedAll (fields ++ take rows levers)
+partOf fields rows levers = storedAll fields ++ storedAll (take rows levers)
 
--- the first face's, with the column and the bolts; the old kind's is the new one less what it lacks, z
+-- the first face's; the old kind's is the new one less what it lacks, z
 abbrev pub firstPart : FileKind → Joint → List ℕ
 firstPart kind joint =
-    let face = joint .face in
-    partOf (take (storedFieldCount kind) (fieldsOf (joint .column) (joint .bolts) face)) (firstRows (face .rows)) (face .levers)
+    partOf (take (storedFieldCount kind) (firstFields joint)) (firstRows (joint .face .rows)) (joint .face .levers)
 
--- the second face's: what it has of its own
+-- the second face's
 abbrev pub secondPart : Joint → List ℕ
-secondPart joint =
-    let face = joint .other in
-    partOf (ownOf (fieldsOf (joint .column) (joint .bolts) face)) (face .rows) (face .levers)
+secondPart joint = partOf (secondFields joint) (joint .other .rows) (joint .other .levers)
 
 -- rules 9.2 and 9.8: the file of a joint
 unfoldable pub file : FileKind → Joint → List ℕ

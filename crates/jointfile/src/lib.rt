@@ -8,6 +8,7 @@ use fields::OWN_COUNT;
 use fields::fields_of;
 use fields::joint_of;
 use fields::own_of;
+use joint::Face;
 use joint::Joint;
 use joint::first_rows;
 use joint::is_row_count;
@@ -24,16 +25,17 @@ use numbers::run::stored_size;
 ghost use Prim.Native.Nat.{_+_, _≤_};
 ghost use mathlib.Core.Path.{_≡_};
 ghost use mathlib.Core.Bool.{true};
-ghost use mathlib.Core.List.{_++_};
 ghost use lib.Dec.{leb};
 ghost use lib.ListN.{length, drop, replicate};
+ghost use Rattle.joint.specs.Faces.{twoFaced};
 ghost use Rattle.buffers.specs.Put.{Put};
 ghost use Rattle.numbers.specs.Parse.{refused};
-ghost use Rattle.numbers.specs.Run.{storedAll, allZero};
-ghost use Rattle.jointfile.specs.File.{storedFieldCount, rowsBy, answer, reading, restOf};
+ghost use Rattle.numbers.specs.Run.{allZero};
+ghost use Rattle.fields.specs.Fields.{field};
+ghost use Rattle.jointfile.specs.File.{storedFieldCount, rowsBy, readSecond, answer, reading, restOf};
 ghost use Rattle.jointfile.specs.Write.{rowsCheck, spareCheck, file, writing};
-ghost use Rattle.jointfile.specs.Answers.{OthersRead, PartRead, secondAfter};
-ghost use Rattle.jointfile.specs.Answers.{writtenMeaning, writingIfRoom, numbersStored, FileParts};
+ghost use Rattle.jointfile.specs.Answers.{OthersRead, PartRead};
+ghost use Rattle.jointfile.specs.Answers.{writtenMeaning, writingIfRoom, partStored, numbersStored, FileParts};
 ghost use Rattle.jointfile.specs.declared.FileKind.the-variants.{New};
 
 // The kinds of joint file. The old one has no z, field 30.
@@ -118,10 +120,10 @@ fn read_part(bytes: &[u8], from: usize, first: bool, fields: &mut [u32], levers:
     read_others(bytes, next, rows, &mut fields[1..], levers)
 }
 
-// Reads the second face's part, after the first one's.
+// Reads the second face's part, after the first one's, whose count is marked.
 fn read_second(bytes: &[u8], from: usize, fields: [u32; FIELD_COUNT], levers: [u32; 8]) -> Reading
-    requires { ⌜ from ≤ length (now bytes) ⌝ }
-    ensures { λ r. ⌜ r ≡ answer (length (now (bytes .entry))) (secondAfter fields levers (drop from (now (bytes .entry)))) ⌝ }
+    requires { ⌜ (from ≤ length (now bytes)) × (twoFaced (field 1 fields) ≡ true) ⌝ }
+    ensures { λ r. ⌜ r ≡ answer (length (now (bytes .entry))) (readSecond fields levers (drop from (now (bytes .entry)))) ⌝ }
 {
     let mut own = [0u32; OWN_COUNT];
     let mut other_levers = [0u32; 8];
@@ -215,9 +217,8 @@ fn put_file(
 
 // Puts the numbers of a part, for which there is room, and answers the place after them.
 fn put_part(buffer: &mut [u8], from: usize, fields: &[u32], levers: &[u32]) -> usize
-    requires { ⌜ from + length (storedAll (now fields) ++ storedAll (now levers)) ≤ length (now buffer) ⌝ }
-    ensures { λ r. ⌜ Put (now (buffer .entry)) from (storedAll (now (fields .entry)) ++ storedAll (now (levers .entry)))
-        (now (buffer .exit)) r ⌝ }
+    requires { ⌜ from + length (partStored (now fields) (now levers)) ≤ length (now buffer) ⌝ }
+    ensures { λ r. ⌜ Put (now (buffer .entry)) from (partStored (now (fields .entry)) (now (levers .entry))) (now (buffer .exit)) r ⌝ }
 {
     let after_fields = put_numbers(buffer, from, fields);
     put_numbers(buffer, after_fields, levers)
@@ -238,11 +239,10 @@ fn has_row_counts(joint: Joint) -> bool
     true
 }
 
-// Whether the levers past so many rows are 0. That the array has eight levers is promised too: of an array that is a field the caller
-// doesn't know it.
+// Whether the levers past so many rows are 0.
 fn is_spare_zero(rows: u32, levers: [u32; 8]) -> bool
     requires { ⌜ rows ≤ 8 ⌝ }
-    ensures { λ r. ⌜ (r ≡ allZero (drop rows levers)) × (length levers ≡ 8) ⌝ }
+    ensures { λ r. ⌜ r ≡ allZero (drop rows levers) ⌝ }
 {
     let count = rows as usize;
     all_zero(&levers[count..])
@@ -251,7 +251,7 @@ fn is_spare_zero(rows: u32, levers: [u32; 8]) -> bool
 // Refusal 6's question of each face that a joint has: whether its spare levers are 0.
 fn has_zero_spares(joint: Joint) -> bool
     requires { ⌜ rowsCheck joint .1 ≡ true ⌝ }
-    ensures { λ r. ⌜ (r ≡ spareCheck joint .1) × (length (joint .face .levers) ≡ 8) ⌝ }
+    ensures { λ r. ⌜ r ≡ spareCheck joint .1 ⌝ }
 {
     let face = joint.face;
     let other = joint.other;
@@ -266,6 +266,13 @@ fn has_zero_spares(joint: Joint) -> bool
     true
 }
 
+// The levers of a face. Of an array that a function answers it is known how long it is, and of one that is a field it isn't.
+fn levers_of(face: Face) -> [u32; 8]
+    ensures { λ r. ⌜ r ≡ face .levers ⌝ }
+{
+    face.levers
+}
+
 // Writes the file of a joint whose row counts and spare levers are right.
 fn write_parts(joint: Joint, buffer: &mut [u8]) -> Written
     requires { ⌜ rowsCheck joint .1 ≡ true ⌝ }
@@ -273,8 +280,8 @@ fn write_parts(joint: Joint, buffer: &mut [u8]) -> Written
 {
     let face = joint.face;
     let other = joint.other;
-    let levers = face.levers;
-    let other_levers = other.levers;
+    let levers = levers_of(face);
+    let other_levers = levers_of(other);
     let rows = first_rows(face.rows) as usize;
     let fields = fields_of(joint.column, joint.bolts, face);
     if is_two_faced(face.rows) {

@@ -1,5 +1,4 @@
--- `no_joint` meets its contract: the joint of zeros is `noJoint`.
--- Assumes nothing.
+-- `no_joint` meets its contract: the joint of zeros is `noJoint`. Assumes nothing.
 use Rattle.jointfile.specs.File.{noJoint}
 use borrow.Author.Needs.{needs}
 use Rattle.jointfile.proofs.no_joint.Statement.{statement}

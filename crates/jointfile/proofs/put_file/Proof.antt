@@ -2,14 +2,14 @@
 use Prim.Native.Nat.{ℕ, _+_, _≤_}
 use mathlib.Core.Path.{_≡_, sym, _∙_}
 use mathlib.Core.Bool.{true}
-use mathlib.Core.List.{List, _++_}
+use mathlib.Core.List.{List}
 use native.Mathlib.Nat.{zero-add}
 use borrow.Author.Tests.{leb-true}
 use lib.Dec.{leb}
 use lib.ListN.{length}
 use denote.Ref.{now}
-use Rattle.numbers.specs.Run.{storedAll}
 use Rattle.buffers.proofs.Puts.{put-both, room-first, room-after}
+use Rattle.jointfile.specs.Answers.{partStored, numbersStored}
 use Rattle.jointfile.proofs.IfRoom.{short-of-room, put-in-room}
 use borrow.Author.Needs.{needs}
 use Rattle.jointfile.proofs.put_file.Statement.{statement}
@@ -17,30 +17,29 @@ use Rattle.jointfile.proofs.put_file.Tie as tie
 
 -- ---- the places: the call's start, the test, and the two parts put
 
-abbrev start : tie.After-slice-known → tie.Start
-start c = c .before .before .before
+abbrev start : tie.Then1 → tie.Start
+start c = c .before .before .before .before .before .before .before
 
-abbrev tested : tie.After-put-numbers → tie.Then1
+abbrev tested : tie.After-put-part → tie.Then1
 tested c = c .before .before
 
-abbrev start-then : tie.Then1 → tie.Start
-start-then c = start (c .before .before)
-
-abbrev first : tie.After-put-numbers-arg2 → tie.After-put-numbers
+abbrev first : tie.After-put-part-arg2 → tie.After-put-part
 first c = c .before .before .before
 
-abbrev second : tie.After-slice-known3 → tie.After-put-numbers2
+abbrev second : tie.After-slice-known3 → tie.After-put-part2
 second c = c .before .before
 
 -- the file's bytes
 abbrev bytes : tie.Then1 → List ℕ
-bytes c = storedAll (now (start-then c .args .fields)) ++ storedAll (now (start-then c .args .levers))
+bytes c =
+    let args = start c .args in
+    numbersStored (now (args .fields)) (now (args .levers)) (now (args .own)) (now (args .others))
 
 -- there is room for them, as was found
-room : (c : tie.Then1) → leb (length (bytes c)) (length (now (start-then c .args .buffer))) ≡ true
+room : (c : tie.Then1) → leb (length (bytes c)) (length (now (start c .args .buffer))) ≡ true
 room c = sym (c .before .has-room .ensures) ∙ c .if1 .taken
 
-fits : (c : tie.Then1) → 0 + length (bytes c) ≤ length (now (start-then c .args .buffer))
+fits : (c : tie.Then1) → 0 + length (bytes c) ≤ length (now (start c .args .buffer))
 fits c = rw zero-add (leb-true _ _ (room c))
 
 -- ---- the needs
@@ -48,13 +47,14 @@ fits c = rw zero-add (leb-true _ _ (room c))
 has-room-requires : tie.Need-has-room-requires
 has-room-requires c κs = search needs
 
-put-numbers-requires : tie.Need-put-numbers-requires
-put-numbers-requires c κs =
-    let args = start-then (c .before) .args in
-    room-first (storedAll (now (args .fields))) (storedAll (now (args .levers))) 0 _ (fits (c .before))
+put-part-requires : tie.Need-put-part-requires
+put-part-requires c κs =
+    let args = start (c .before) .args in
+    room-first (partStored (now (args .fields)) (now (args .levers))) (partStored (now (args .own)) (now (args .others))) 0 _
+    (fits (c .before))
 
-put-numbers-requires-2 : tie.Need-put-numbers-requires-2
-put-numbers-requires-2 c κs = room-after _ (first c .put-numbers .ensures) (fits (tested (first c)))
+put-part-requires-2 : tie.Need-put-part-requires-2
+put-part-requires-2 c κs = room-after _ (first c .put-part .ensures) (fits (tested (first c)))
 
 same-length : tie.Need-same-length
 same-length c = search needs
@@ -62,11 +62,11 @@ same-length c = search needs
 returns : tie.Need-returns
 returns c =
     let part = first (second c .before) in
-    put-in-room (put-both (part .put-numbers .ensures) (second c .put-numbers2 .ensures)) (room (tested part))
+    put-in-room (put-both (part .put-part .ensures) (second c .put-part2 .ensures)) (room (tested part))
 
 returns-2 : tie.Need-returns-2
 returns-2 c = short-of-room _ _ (sym (c .before .has-room .ensures) ∙ c .if1 .left)
 
 pub put-file-spec : {M : Type 1} → statement M
 put-file-spec =
-    tie.close (tie.spec has-room-requires put-numbers-requires put-numbers-requires-2 same-length returns returns-2)
+    tie.close (tie.spec has-room-requires put-part-requires put-part-requires-2 same-length returns returns-2)

@@ -1,40 +1,83 @@
--- `read` meets its contract: field 1 is refused, is no row count, or is followed by what `read_others` reads.
+-- `read` meets its contract: the first part is refused, or is followed by the second's where its count is marked.
 -- Assumes nothing.
-use Prim.Native.Nat.{ℕ}
-use mathlib.Core.Path.{sym, ap, _∙_}
-use mathlib.Core.List.{List}
+use mathlib.Core.Path.{_≡_, sym, ap, _∙_}
+use mathlib.Core.List.{List, _++_}
+use Prim.Native.Nat.{ℕ, _≤_}
 use native.Mathlib.Omega.{arith}
+use lib.ListN.{length, drop}
 use denote.Ref.{now}
+use Rattle.numbers.specs.Answers.{endPlace, runRefusal}
+use Rattle.arithmetic.specs.Range.{Within, _to_}
+use Rattle.fields.specs.Fields.{fieldCount}
+use Rattle.jointfile.specs.File.{readSecond, readJoint, answer}
+use Rattle.jointfile.proofs.Answers.{second-none, answer-got, stored-count, unread, lent-fields, joint-stopped, joint-goes-on}
 use borrow.Author.Needs.{needs}
-use Rattle.numbers.specs.Answers.{numberMeaning, nextPlace, refusalNumber, NumberRead}
-use Rattle.numbers.specs.declared.number.Number.the-variants.{Value}
-use Rattle.jointfile.specs.File.{answer}
-use Rattle.jointfile.proofs.Answers.{row-count-most, first-refused, rows-refused, rows-taken}
 use Rattle.jointfile.proofs.read.Statement.{statement}
 use Rattle.jointfile.proofs.read.Tie as tie
 
--- ---- the places: after field 1 was read, as a number, and after its value was asked about
+-- ---- the places: the call's start, the fields of this kind counted, and the first part read
 
-abbrev field-1 : tie.After-first → tie.After-number-at
-field-1 c = c .before .before
+abbrev start : tie.After-stored-field-count → tie.Start
+start c = c .before .before
 
-abbrev bytes-at : tie.After-number-at → List ℕ
-bytes-at c = now (c .before .before .args .bytes)
+abbrev counted : tie.After-read-part → tie.After-stored-field-count
+counted c = c .before .before .before
 
-abbrev value-of : tie.After-is-row-count → tie.After-first
-value-of c = c .before .before
+abbrev stopped : tie.After-enum-told → tie.After-read-part
+stopped c = c .before .before .before .before
 
--- field 1 is a number
-first-read : (c : tie.After-first) → NumberRead (bytes-at (field-1 c)) 0 (Value (c .first .given .0 .0) (c .first .given .0 .1 .0))
-first-read c =
-    let is = c .first .given .1 in
-    let read = field-1 c .number-at .ensures in
-    record { means = ap (numberMeaning _) (sym is) ∙ read .means; within = omega (arith, ap nextPlace is, read .within) }
+abbrev taken : tie.After-first → tie.After-read-part
+taken c = c .before .before .before .before
+
+abbrev goes : tie.After-is-two-faced → tie.After-first
+goes c = c .before .before
+
+-- the fields and the levers of the first face, with the fields that this kind lacks
+abbrev fields : tie.After-read-part → List ℕ
+fields c = c .read-part .last .1 .1 .1 .0 ++ drop (counted c .stored-field-count .result) unread
+
+abbrev levers : tie.After-read-part → List ℕ
+levers c = c .read-part .last .1 .1 .1 .1 .0
+
+-- a file of this kind has some fields, and no more than there are places
+stored-known : (c : tie.After-stored-field-count) → Within (1 to fieldCount) (c .stored-field-count .result)
+stored-known c = rw (c .stored-field-count .ensures) (stored-count (start c .args .kind))
+
+-- the place after the first part lies in the bytes, and what is read there gives the joint
+in-bytes : (c : tie.After-first) → c .first .given .0 .0 ≤ length (now (start (counted (taken c)) .args .bytes))
+in-bytes c = omega (arith, ap endPlace (c .first .given .1), taken c .read-part .ensures .within)
+
+goes-on : (c : tie.After-first) → let args = start (counted (taken c)) .args in
+    readJoint (args .kind) (now (args .bytes))
+    ≡ readSecond (fields (taken c)) (levers (taken c)) (drop (c .first .given .0 .0) (now (args .bytes)))
+goes-on c =
+    joint-goes-on _ (counted (taken c) .stored-field-count .ensures) (taken c .read-part .ensures) _ (c .first .given .1)
 
 -- ---- the needs
 
-number-at-requires : tie.Need-number-at-requires
-number-at-requires c κs = search needs
+sub-fields : tie.Need-sub-fields
+sub-fields c = search needs
+
+mul-fields : tie.Need-mul-fields
+mul-fields c = search needs
+
+array-write-fields : tie.Need-array-write-fields
+array-write-fields c = search needs
+
+stored-field-count-requires : tie.Need-stored-field-count-requires
+stored-field-count-requires c κs = search needs
+
+array-borrow-prefix-fields : tie.Need-array-borrow-prefix-fields
+array-borrow-prefix-fields c = stored-known c .high
+
+slice-aggregate-read-part : tie.Need-slice-aggregate-read-part
+slice-aggregate-read-part c = rw (c .before .stored-field-count .ensures) (sym (lent-fields (start (c .before) .args .kind)))
+
+slice-aggregate-read-part-2 : tie.Need-slice-aggregate-read-part-2
+slice-aggregate-read-part-2 c = search needs
+
+read-part-requires : tie.Need-read-part-requires
+read-part-requires c κs = ?
 
 enum-known-first : tie.Need-enum-known-first
 enum-known-first c = search needs
@@ -42,58 +85,63 @@ enum-known-first c = search needs
 enum-told : tie.Need-enum-told
 enum-told c = search needs
 
-refusal-of-requires : tie.Need-refusal-of-requires
-refusal-of-requires c κs = search needs
+run-refusal-requires : tie.Need-run-refusal-requires
+run-refusal-requires c κs = search needs
 
 no-joint-requires : tie.Need-no-joint-requires
 no-joint-requires c κs = search needs
 
 returns : tie.Need-returns
 returns c =
-    let stopped = c .before .before in
-    let read = stopped .before .before in
-    let refused = stopped .enum-told .given .1 in
-    let is = c .before .refusal-of .ensures ∙ ap refusalNumber refused in
-    c .no-joint .ensures ∙ rw is (ap (answer _) (sym (first-refused _ (rw refused at (read .number-at .ensures)))))
+    let told = c .before .before in
+    let part = stopped told in
+    let refused = told .enum-told .given .1 in
+    let is = c .before .run-refusal .ensures ∙ ap runRefusal refused in
+    let stops = joint-stopped _ (counted part .stored-field-count .ensures) (part .read-part .ensures) _ refused in
+    c .no-joint .ensures ∙ rw is (ap (answer _) (sym stops))
 
-cast-is-row-count : tie.Need-cast-is-row-count
-cast-is-row-count c = search needs
+array-read-is-two-faced : tie.Need-array-read-is-two-faced
+array-read-is-two-faced c = search needs
 
-is-row-count-requires : tie.Need-is-row-count-requires
-is-row-count-requires c κs = search needs
+is-two-faced-requires : tie.Need-is-two-faced-requires
+is-two-faced-requires c κs = search needs
 
-read-others-requires : tie.Need-read-others-requires
-read-others-requires c κs =
-    (row-count-most _ (sym (c .before .is-row-count .ensures) ∙ c .if1 .taken), first-read (value-of (c .before)) .within)
+read-second-requires : tie.Need-read-second-requires
+read-second-requires c κs = (in-bytes (goes (c .before)), sym (c .before .is-two-faced .ensures) ∙ c .if1 .taken)
 
 returns-2 : tie.Need-returns-2
-returns-2 c =
-    let tested = c .before in
-    let counted = sym (tested .before .is-row-count .ensures) ∙ tested .if1 .taken in
-    c .read-others .ensures ∙ ap (answer _) (sym (rows-taken _ (first-read (value-of (tested .before))) counted))
+returns-2 c = c .read-second .ensures ∙ ap (answer _) (sym (goes-on (goes (c .before .before))))
 
-no-joint-requires-2 : tie.Need-no-joint-requires-2
-no-joint-requires-2 c κs = search needs
+joint-of-requires : tie.Need-joint-of-requires
+joint-of-requires c κs = search needs
 
 returns-3 : tie.Need-returns-3
 returns-3 c =
-    let tested = c .before in
-    let counted = sym (tested .before .is-row-count .ensures) ∙ tested .if1 .left in
-    c .no-joint2 .ensures ∙ ap (answer _) (sym (rows-refused _ (first-read (value-of (tested .before))) counted))
+    let asked = c .before .before in
+    let one = sym (asked .is-two-faced .ensures) ∙ c .before .if1 .left in
+    let alone = goes-on (goes asked) ∙ second-none _ _ _ one in
+    rw (c .joint-of .ensures) (sym (ap (answer _) alone ∙ answer-got _ _ _ (in-bytes (goes asked))))
 
 pub read-spec : {M : Type 1} → statement M
 read-spec =
     tie.close
     (tie.spec
-    number-at-requires
+    sub-fields
+    mul-fields
+    array-write-fields
+    stored-field-count-requires
+    array-borrow-prefix-fields
+    slice-aggregate-read-part
+    slice-aggregate-read-part-2
+    read-part-requires
     enum-known-first
     enum-told
-    refusal-of-requires
+    run-refusal-requires
     no-joint-requires
     returns
-    cast-is-row-count
-    is-row-count-requires
-    read-others-requires
+    array-read-is-two-faced
+    is-two-faced-requires
+    read-second-requires
     returns-2
-    no-joint-requires-2
+    joint-of-requires
     returns-3)
