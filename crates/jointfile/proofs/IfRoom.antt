@@ -6,17 +6,23 @@ use mathlib.Core.List.{List, [], _∷_, _++_}
 use native.Mathlib.Omega.{arith}
 use borrow.Author.Tests.{leb-true, le-leb}
 use lib.Dec.{leb}
-use lib.ListN.{length, getD, length-append}
+use lib.ListN.{length, getD, take, length-append, length-take}
 use Rattle.arithmetic.specs.Checks.{firstFailing}
 use Rattle.arithmetic.proofs.Checks.{fails}
+use Rattle.joint.specs.Faces.{twoFaced, firstRows}
+use Rattle.joint.specs.declared.Joint.{Joint}
+use Rattle.joint.proofs.Faces.{count-most}
 use Rattle.buffers.specs.Put.{atFront, Put}
 use Rattle.buffers.proofs.Puts.{sets-front}
 use Rattle.numbers.specs.Number.{stored}
 use Rattle.numbers.specs.Run.{storedAll}
 use Rattle.numbers.proofs.Codec.{groups-last}
 use Rattle.numbers.proofs.Sizes.{storedAll-short}
-use Rattle.jointfile.specs.Write.{wrote, turnedDown}
+use Rattle.fields.specs.Fields.{fieldsOf, ownOf, ownCount}
+use Rattle.jointfile.specs.Write.{firstFields, secondFields, partOf, file, wrote, turnedDown, rowsCheck}
 use Rattle.jointfile.specs.Answers.{partStored, numbersStored, FileParts, writingIfRoom}
+use Rattle.jointfile.specs.declared.FileKind.the-variants.{New}
+use Rattle.jointfile.proofs.Faces.{first-rows-few}
 
 -- a number below 128 takes one byte, and no number more than five
 first-short : (xs : List ℕ) → getD xs 0 0 < 128 → length (storedAll xs) ≤ 1 + 5 * (length xs - 1)
@@ -69,3 +75,36 @@ put-in-room {bytes} {buffer} {exit} {next} put room =
     let size : next ≡ length bytes = omega (arith, put .place) in
     let whole : exit ≡ atFront bytes buffer = put .stores ∙ sets-front bytes buffer fits in
     simp room (λ i. record { refusal = 0; size = size i; buffer = whole i })
+
+-- ---- the file of a joint is these numbers: fields and levers of the first face, and those of the second where there is one
+
+pub own-count : (joint : Joint) → length (secondFields joint) ≤ ownCount
+unfolding fieldsOf ownOf
+own-count joint = omega arith
+
+module _ (joint : Joint) {fields levers : List ℕ} {rows : ℕ} (numbers : fields ≡ firstFields joint) (arms : levers ≡ joint .face .levers)
+    (by : rows ≡ firstRows (joint .face .rows)) where
+  pub file-alone : twoFaced (joint .face .rows) ≡ false → numbersStored fields (take rows levers) [] [] ≡ file New joint
+  unfolding file partOf storedAll fieldsOf
+  file-alone one = rw (one, numbers, arms, by)
+
+  module _ {own others : List ℕ} (numbers′ : own ≡ secondFields joint) (arms′ : others ≡ joint .other .levers) where
+    pub file-both : twoFaced (joint .face .rows) ≡ true
+        → numbersStored fields (take rows levers) own (take (joint .other .rows) others) ≡ file New joint
+    unfolding file partOf fieldsOf
+    file-both two = rw (two, numbers, arms, by, numbers′, arms′)
+
+  -- and they are no more than a file has
+  module _ (right : rowsCheck joint .1 ≡ true) where
+    pub first-counts : (own others : List ℕ) → length own ≤ ownCount → length others ≤ 8 → FileParts fields (take rows levers) own others
+    unfolding fieldsOf
+    first-counts own others own-few other-rows =
+        let few = first-rows-few joint right in
+        record {
+          some = rw numbers (omega arith);
+          few = rw numbers (omega arith);
+          count = rw numbers (omega (arith, count-most (joint .face .rows) few));
+          rows = omega (arith, length-take rows levers, by, few);
+          own-few = own-few;
+          other-rows = other-rows;
+        }

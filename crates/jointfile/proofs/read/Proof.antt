@@ -1,6 +1,6 @@
 -- `read` meets its contract: the first part is refused, or is followed by the second's where its count is marked.
 -- Assumes nothing.
-use mathlib.Core.Path.{_≡_, sym, ap, _∙_}
+use mathlib.Core.Path.{_≡_, refl, sym, ap, _∙_}
 use mathlib.Core.List.{List, _++_}
 use Prim.Native.Nat.{ℕ, _≤_}
 use native.Mathlib.Omega.{arith}
@@ -77,7 +77,9 @@ slice-aggregate-read-part-2 : tie.Need-slice-aggregate-read-part-2
 slice-aggregate-read-part-2 c = search needs
 
 read-part-requires : tie.Need-read-part-requires
-read-part-requires c κs = ?
+read-part-requires c κs =
+    let stored = c .before .before in
+    (rw (stored .stored-field-count .ensures, lent-fields (start stored .args .kind)) (stored-count (start stored .args .kind) .low), refl)
 
 enum-known-first : tie.Need-enum-known-first
 enum-known-first c = search needs

@@ -1,6 +1,67 @@
+-- `write_parts` meets its contract: what is put is the file of a joint with two faces, or of one. Assumes nothing.
+use Prim.Native.Nat.{_≤_}
+use mathlib.Core.Path.{_≡_, sym, ap, _∙_}
+use mathlib.Core.Bool.{true}
+use native.Mathlib.Omega.{arith}
+use lib.ListN.{length, length-take}
+use lib.Seq.{length-take-le}
+use denote.Ref.{now}
+use Rattle.joint.specs.Faces.{twoFaced}
+use Rattle.fields.specs.Fields.{ownOf}
+use Rattle.jointfile.specs.Write.{secondFields}
+use Rattle.jointfile.specs.Answers.{writingIfRoom}
+use Rattle.jointfile.proofs.Faces.{first-rows-few, second-rows-few}
+use Rattle.jointfile.proofs.IfRoom.{own-count, file-alone, file-both, first-counts}
 use borrow.Author.Needs.{needs}
 use Rattle.jointfile.proofs.write_parts.Statement.{statement}
 use Rattle.jointfile.proofs.write_parts.Tie as tie
+
+-- ---- the places: the call's start, the first face's numbers, the second's, and what was put
+
+abbrev start : tie.After-first-rows → tie.Start
+start c = c .before .before .before .before .before .before
+
+abbrev first : tie.After-is-two-faced → tie.After-fields-of
+first c = c .before
+
+abbrev rows : tie.After-is-two-faced → tie.After-first-rows
+rows c = first c .before
+
+abbrev asked : tie.After-own-of → tie.After-is-two-faced
+asked c = c .before .before .before .before
+
+abbrev second : tie.After-put-file-arg → tie.After-own-of
+second c = c .before .before .before .before .before
+
+abbrev asked-alone : tie.After-put-file-arg2 → tie.After-is-two-faced
+asked-alone c = c .before .before .before .before .before .before
+
+abbrev put : tie.After-slice-known2 → tie.After-put-file
+put c = c .before .before
+
+abbrev put-alone : tie.After-slice-known3 → tie.After-put-file2
+put-alone c = c .before .before
+
+-- ---- what is known there
+
+first-few : (c : tie.After-first-rows) → c .first-rows .result ≤ length (c .before .before .levers-of .result)
+first-few c = omega (arith, c .first-rows .ensures, first-rows-few (start c .args .joint) (start c .pre))
+
+two : (c : tie.After-own-of) → twoFaced (start (rows (asked c)) .args .joint .face .rows) ≡ true
+two c = sym (asked c .is-two-faced .ensures) ∙ c .before .before .before .if1 .taken
+
+second-eight : (c : tie.After-levers-of2) → length (c .levers-of2 .result) ≡ 8
+second-eight c = omega arith
+
+second-few : (c : tie.After-own-of) → start (rows (asked c)) .args .joint .other .rows ≤ length (rows (asked c) .before .levers-of2 .result)
+second-few c =
+    let s = start (rows (asked c)) in
+    rw (second-eight (rows (asked c) .before)) (second-rows-few (s .args .joint) (s .pre) (two c))
+
+own : (c : tie.After-own-of) → c .own-of .result ≡ secondFields (start (rows (asked c)) .args .joint)
+own c = c .own-of .ensures ∙ ap ownOf (c .before .fields-of2 .ensures)
+
+-- ---- the needs
 
 levers-of-requires : tie.Need-levers-of-requires
 levers-of-requires c κs = search needs
@@ -33,37 +94,51 @@ slice-aggregate-put-file : tie.Need-slice-aggregate-put-file
 slice-aggregate-put-file c = search needs
 
 array-share-prefix-levers : tie.Need-array-share-prefix-levers
-array-share-prefix-levers c = ?
+array-share-prefix-levers c = first-few (rows (asked (c .before)))
 
 slice-aggregate-put-file-2 : tie.Need-slice-aggregate-put-file-2
-slice-aggregate-put-file-2 c = ?
+slice-aggregate-put-file-2 c = sym (length-take-le _ _ (first-few (rows (asked (c .before .before)))))
 
 slice-aggregate-put-file-3 : tie.Need-slice-aggregate-put-file-3
 slice-aggregate-put-file-3 c = search needs
 
 array-share-prefix-other-levers : tie.Need-array-share-prefix-other-levers
-array-share-prefix-other-levers c = ?
+array-share-prefix-other-levers c = second-few (c .before .before .before)
 
 slice-aggregate-put-file-4 : tie.Need-slice-aggregate-put-file-4
-slice-aggregate-put-file-4 c = ?
+slice-aggregate-put-file-4 c = sym (length-take-le _ _ (second-few (c .before .before .before .before)))
 
 put-file-requires : tie.Need-put-file-requires
-put-file-requires c κs = ?
+put-file-requires c κs =
+    let own-read = second c in
+    let asked-two = asked own-read in
+    let s = start (rows asked-two) in
+    let joint = s .args .joint in
+    first-counts joint (first asked-two .fields-of .ensures) (rows asked-two .before .before .levers-of .ensures)
+    (rows asked-two .first-rows .ensures) (s .pre) _ _ (rw (own own-read) (own-count joint))
+    (omega (arith, length-take (joint .other .rows) (rows asked-two .before .levers-of2 .result), second-rows-few joint (s .pre) (two own-read)))
 
 same-length : tie.Need-same-length
 same-length c = search needs
 
 returns : tie.Need-returns
-returns c = ?
+returns c =
+    let own-read = second (put c .before) in
+    let asked-two = asked own-read in
+    let s = start (rows asked-two) in
+    put c .put-file .ensures
+    ∙ ap (λ bytes. writingIfRoom bytes (now (s .args .buffer)))
+    (file-both (s .args .joint) (first asked-two .fields-of .ensures) (rows asked-two .before .before .levers-of .ensures)
+    (rows asked-two .first-rows .ensures) (own own-read) (rows asked-two .before .levers-of2 .ensures) (two own-read))
 
 slice-aggregate-put-file-5 : tie.Need-slice-aggregate-put-file-5
 slice-aggregate-put-file-5 c = search needs
 
 array-share-prefix-levers-2 : tie.Need-array-share-prefix-levers-2
-array-share-prefix-levers-2 c = ?
+array-share-prefix-levers-2 c = first-few (rows (c .before .before))
 
 slice-aggregate-put-file-6 : tie.Need-slice-aggregate-put-file-6
-slice-aggregate-put-file-6 c = ?
+slice-aggregate-put-file-6 c = sym (length-take-le _ _ (first-few (rows (c .before .before .before))))
 
 array-share-prefix-own : tie.Need-array-share-prefix-own
 array-share-prefix-own c = search needs
@@ -78,13 +153,24 @@ slice-aggregate-put-file-8 : tie.Need-slice-aggregate-put-file-8
 slice-aggregate-put-file-8 c = search needs
 
 put-file-requires-2 : tie.Need-put-file-requires-2
-put-file-requires-2 c κs = ?
+put-file-requires-2 c κs =
+    let asked-two = asked-alone c in
+    let s = start (rows asked-two) in
+    first-counts (s .args .joint) (first asked-two .fields-of .ensures) (rows asked-two .before .before .levers-of .ensures)
+    (rows asked-two .first-rows .ensures) (s .pre) _ _ (omega arith) (omega arith)
 
 same-length-2 : tie.Need-same-length-2
 same-length-2 c = search needs
 
 returns-2 : tie.Need-returns-2
-returns-2 c = ?
+returns-2 c =
+    let asked-two = asked-alone (put-alone c .before) in
+    let s = start (rows asked-two) in
+    put-alone c .put-file2 .ensures
+    ∙ ap (λ bytes. writingIfRoom bytes (now (s .args .buffer)))
+    (file-alone (s .args .joint) (first asked-two .fields-of .ensures) (rows asked-two .before .before .levers-of .ensures)
+    (rows asked-two .first-rows .ensures)
+    (sym (asked-two .is-two-faced .ensures) ∙ put-alone c .before .before .before .before .before .before .if1 .left))
 
 pub write-parts-spec : {M : Type 1} → statement M
 write-parts-spec =
