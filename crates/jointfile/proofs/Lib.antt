@@ -5,3 +5,5 @@ pub mod Answers
 pub mod IfRoom
 pub mod Ends
 pub mod Places
+pub mod Parts
+pub mod RoundTrip

@@ -70,3 +70,9 @@ pub storedAll-append : (xs ys : List ℕ) → storedAll (xs ++ ys) ≡ storedAll
 unfolding storedAll
 storedAll-append [] ys = refl
 storedAll-append (x ∷ xs) ys = rw (storedAll-append xs ys, append-assoc)
+
+-- and one at least
+pub storedAll-long : (xs : List ℕ) → length xs ≤ length (storedAll xs)
+unfolding storedAll
+storedAll-long [] = omega arith
+storedAll-long (x ∷ xs) = rw length-append (omega (arith, groups-positive 4 x, storedAll-long xs))

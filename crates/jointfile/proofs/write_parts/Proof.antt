@@ -126,10 +126,10 @@ returns c =
     let own-read = second (put c .before) in
     let asked-two = asked own-read in
     let s = start (rows asked-two) in
-    put c .put-file .ensures
-    ∙ ap (λ bytes. writingIfRoom bytes (now (s .args .buffer)))
-    (file-both (s .args .joint) (first asked-two .fields-of .ensures) (rows asked-two .before .before .levers-of .ensures)
-    (rows asked-two .first-rows .ensures) (own own-read) (rows asked-two .before .levers-of2 .ensures) (two own-read))
+    let is =
+    file-both (s .args .joint) (first asked-two .fields-of .ensures) (rows asked-two .before .before .levers-of .ensures)
+    (rows asked-two .first-rows .ensures) (own own-read) (rows asked-two .before .levers-of2 .ensures) (two own-read) in
+    rw (← is) (put c .put-file .ensures)
 
 slice-aggregate-put-file-5 : tie.Need-slice-aggregate-put-file-5
 slice-aggregate-put-file-5 c = search needs
@@ -166,11 +166,11 @@ returns-2 : tie.Need-returns-2
 returns-2 c =
     let asked-two = asked-alone (put-alone c .before) in
     let s = start (rows asked-two) in
-    put-alone c .put-file2 .ensures
-    ∙ ap (λ bytes. writingIfRoom bytes (now (s .args .buffer)))
-    (file-alone (s .args .joint) (first asked-two .fields-of .ensures) (rows asked-two .before .before .levers-of .ensures)
-    (rows asked-two .first-rows .ensures)
-    (sym (asked-two .is-two-faced .ensures) ∙ put-alone c .before .before .before .before .before .before .if1 .left))
+    let one = sym (asked-two .is-two-faced .ensures) ∙ put-alone c .before .before .before .before .before .before .if1 .left in
+    let is =
+    file-alone (s .args .joint) (first asked-two .fields-of .ensures) (rows asked-two .before .before .levers-of .ensures)
+    (rows asked-two .first-rows .ensures) one in
+    rw (← is) (put-alone c .put-file2 .ensures)
 
 pub write-parts-spec : {M : Type 1} → statement M
 write-parts-spec =

@@ -1,0 +1,180 @@
+-- The round trip of a joint file of either kind, of one face or of two. A joint's file reads back to the same joint, with anything after it,
+-- and leaves exactly that; and bytes that were read are the file of the joint. Part by part, and then field by field. Of the old kind it is
+-- a law about files alone, since none is written. Assumes nothing.
+use Prim.Native.Nat.{ℕ, zero, suc, _-_, _^_, _<_}
+use mathlib.Core.Path.{_≡_, refl, sym, ap, ap₂, _∙_, subst₂}
+use mathlib.Core.List.{List, [], _∷_, _++_, append-assoc}
+use mathlib.Core.Bool.{Bool, true, false, cond}
+use native.Mathlib.Omega.{arith}
+use lib.Dec.{leb}
+use lib.ListN.{length, getD, take, drop, length-append, take-append-drop}
+use lib.Seq.{take-at, drop-at}
+use Rattle.arithmetic.specs.Checks.{firstFailing}
+use Rattle.arithmetic.specs.Range.{within}
+use Rattle.joint.specs.Ranges.{rowCounts}
+use Rattle.joint.specs.Faces.{twoFaced, firstRows, firstFace}
+use Rattle.joint.specs.declared.Joint.{Joint}
+use Rattle.numbers.specs.Run.{allZero}
+use Rattle.numbers.specs.Parse.{got}
+use Rattle.numbers.specs.Number.{Bytes}
+use Rattle.numbers.proofs.Parsing.{then-got}
+use Rattle.numbers.proofs.RunCodec.{bytes-left}
+use Rattle.fields.specs.Fields.{fieldCount, field, ownCount, ownOf, secondFaceOf, jointOf, fieldsOf}
+use Rattle.fields.proofs.Order.{fields-face, own-face, joint-fields}
+use Rattle.jointfile.specs.File.{untoldEndDistance, lacking, storedFieldCount, otherFieldCount, noPart}
+use Rattle.jointfile.specs.File.{readPart, readSecond, readJoint}
+use Rattle.jointfile.specs.Write.{firstFields, secondFields, partOf, firstPart, secondPart, file, rowsCheck, spareCheck, writing}
+use Rattle.jointfile.specs.Answers.{PartHeld, Held, Writable, OtherTold, ToldBy}
+use Rattle.jointfile.specs.declared.FileKind.{FileKind}
+use Rattle.jointfile.specs.declared.FileKind.the-variants.{Old, New}
+use Rattle.jointfile.proofs.Faces.{first-passes, second-passes, both-pass, first-rows-right, second-rows-right}
+use Rattle.jointfile.proofs.Parts.{take-small, append-small, zeros-small, PartRight, reads-part, TookPart, took-part}
+
+-- ---- what is written reads back
+
+-- the numbers of a joint, and what stands first among them
+module _ (joint : Joint) where
+  first-count : field 1 (firstFields joint) ≡ joint .face .rows
+  unfolding fieldsOf
+  first-count = refl
+
+  second-count : field 1 (secondFields joint) ≡ joint .other .rows
+  unfolding fieldsOf ownOf
+  second-count = refl
+
+  second-long : length (secondFields joint) ≡ ownCount
+  unfolding fieldsOf ownOf
+  second-long = refl
+
+  module _ (kind : FileKind) where
+    stored-count : field 1 (take (storedFieldCount kind) (firstFields joint)) ≡ joint .face .rows
+    unfolding fieldsOf
+    stored-count = elim kind [ Old ↦ refl | New ↦ refl ]
+
+    stored-long : length (take (storedFieldCount kind) (firstFields joint)) ≡ suc (otherFieldCount kind)
+    unfolding fieldsOf
+    stored-long = elim kind [ Old ↦ refl | New ↦ refl ]
+
+-- the parts of a joint that the program can hold and `write` takes are right
+module _ (joint : Joint) (held : Held joint) (writable : Writable joint) where
+  first-right : (kind : FileKind) → PartRight true (take (storedFieldCount kind) (firstFields joint)) (joint .face .levers)
+  unfolding firstFace
+  first-right kind =
+      let first = held .first in
+      record {
+        held =
+            record {
+              eight = first .eight;
+              fields = take-small (storedFieldCount kind) (firstFields joint) (first .fields);
+              levers = first .levers;
+            };
+        rows = rw (stored-count joint kind) (first-rows-right joint (writable .rows));
+        spare = rw (stored-count joint kind) (first-passes (λ face. allZero (drop (face .rows) (face .levers))) joint (writable .spare));
+      }
+
+  second-right : twoFaced (joint .face .rows) ≡ true → PartRight false (secondFields joint) (joint .other .levers)
+  second-right two =
+      record {
+        held = held .second;
+        rows = rw (second-count joint) (second-rows-right joint (writable .rows) two);
+        spare = rw (second-count joint) (second-passes (λ face. allZero (drop (face .rows) (face .levers))) joint (writable .spare) two);
+      }
+
+-- a joint with another second face
+other-face : (joint : Joint) (fields levers own others own′ others′ : List ℕ) → jointOf fields levers own others ≡ joint
+    → joint .other ≡ secondFaceOf own′ others′ → jointOf fields levers own′ others′ ≡ joint
+unfolding jointOf
+other-face joint fields levers own others own′ others′ is other =
+    λ i. record { column = is i .column; bolts = is i .bolts; face = is i .face; other = sym other i }
+
+module _ (kind : FileKind) (joint : Joint) (held : Held joint) (writable : Writable joint) (told : ToldBy kind joint) (left : List ℕ) where
+  abbrev stored-fields : List ℕ
+  stored-fields = take (storedFieldCount kind) (firstFields joint)
+
+  whole : stored-fields ++ lacking kind ≡ firstFields joint
+  whole =
+      ap (λ (xs : List ℕ). stored-fields ++ xs) (sym (told .lacks))
+      ∙ take-append-drop (storedFieldCount kind) (firstFields joint)
+
+  -- the first part reads back
+  reads-first : (after : List ℕ) → readJoint kind (firstPart kind joint ++ after) ≡ readSecond (firstFields joint) (joint .face .levers) after
+  unfolding readJoint
+  reads-first after =
+      let part =
+      reads-part true (otherFieldCount kind) stored-fields (joint .face .levers) after (stored-long joint kind)
+      (first-right joint held writable kind) in
+      rw (rw (stored-count joint kind) at part, whole)
+
+  -- and the second, if there is one
+  reads-second : (mark : Bool) → twoFaced (joint .face .rows) ≡ mark
+      → readSecond (firstFields joint) (joint .face .levers) (cond mark (secondPart joint) [] ++ left) ≡ got joint left
+  unfolding readSecond
+  reads-second true two =
+      let part =
+      reads-part false (ownCount - 1) (secondFields joint) (joint .other .levers) left (second-long joint)
+      (second-right joint held writable two) in
+      rw (first-count joint, two, rw (second-count joint) at part) (ap (λ (j : Joint). got j left) (joint-fields joint))
+  reads-second false one =
+      rw (first-count joint, one)
+      (ap (λ (j : Joint). got j left)
+      (other-face joint (firstFields joint) (joint .face .levers) (secondFields joint) (joint .other .levers)
+      (noPart .fields) (noPart .levers) (joint-fields joint) (told .alone one)))
+
+-- Every joint that the program can hold, that `write` refuses by neither 3 nor 6, and of which the file tells all: the file, with anything
+-- after it, reads back to the joint, and leaves exactly what came after.
+pub reads-back : (kind : FileKind) (joint : Joint) → Held joint → Writable joint → ToldBy kind joint → (left : List ℕ)
+    → readJoint kind (file kind joint ++ left) ≡ got joint left
+unfolding file
+reads-back kind joint held writable told left =
+    let two = twoFaced (joint .face .rows) in
+    rw append-assoc
+    (reads-first kind joint held writable told left (cond two (secondPart joint) [] ++ left)
+    ∙ reads-second kind joint held writable told left two refl)
+
+-- A file of the new kind tells all of every joint with two faces, and of one with one face whose second is all 0.
+pub told-new : (joint : Joint) → OtherTold joint → ToldBy New joint
+unfolding fieldsOf
+told-new joint alone = record { lacks = refl; alone = alone }
+
+pub both-told : (joint : Joint) → twoFaced (joint .face .rows) ≡ true → OtherTold joint
+both-told joint two one =
+    let apart : true ≡ false = sym two ∙ one in
+    let z : _≡_ {A = ℕ} 0 1 = cc in
+    absurd (omega arith)
+
+-- Of the old kind: a joint with the z that its files don't tell, 15000, is read from its new file less z.
+pub reads-old : (joint : Joint) → Held joint → Writable joint → OtherTold joint → joint .column .«end_distance» ≡ untoldEndDistance
+    → (left : List ℕ)
+    → readJoint Old (file Old joint ++ left) ≡ got joint left
+unfolding fieldsOf
+reads-old joint held writable alone far =
+    reads-back Old joint held writable (record { lacks = ap (λ (z : ℕ). z ∷ []) far; alone = alone })
+
+-- A joint that is refused for neither 3 nor 6, whatever the buffer.
+pub writable : (joint : Joint) (buffer : List ℕ) → (writing joint buffer .refusal ≡ 3 → ⊥) → (writing joint buffer .refusal ≡ 6 → ⊥)
+    → Writable joint
+unfolding writing firstFailing
+writable joint buffer not-3 not-6 = go (rowsCheck joint .1) refl (spareCheck joint .1) refl
+  where
+    go : (t : Bool) → rowsCheck joint .1 ≡ t → (u : Bool) → spareCheck joint .1 ≡ u → Writable joint
+    go true rows true spare = record { rows = rows; spare = spare }
+    go true rows false spare = absurd (not-6 (rw (rows, spare)))
+    go false rows u spare = absurd (not-3 (rw rows))
+
+-- What the buffer holds after `write` reads back to the joint, and leaves what was in the buffer past the file.
+pub written-back : (joint : Joint) (buffer : List ℕ) → Held joint → OtherTold joint → writing joint buffer .refusal ≡ 0
+    → readJoint New (writing joint buffer .buffer) ≡ got joint (drop (writing joint buffer .size) buffer)
+unfolding writing firstFailing
+written-back joint buffer held alone none = go (leb (length (file New joint)) (length buffer)) refl
+  where
+    taken : Writable joint
+    taken = writable joint buffer (λ e. omega arith) (λ e. omega arith)
+
+    go : (t : Bool) → leb (length (file New joint)) (length buffer) ≡ t
+        → readJoint New (writing joint buffer .buffer) ≡ got joint (drop (writing joint buffer .size) buffer)
+    go true room =
+        rw (taken .rows, taken .spare, room)
+        (reads-back New joint held taken (told-new joint alone) (drop (length (file New joint)) buffer))
+    go false short =
+        let five : writing joint buffer .refusal ≡ 5 = rw (taken .rows, taken .spare, short) in
+        absurd (omega arith)
