@@ -7,3 +7,4 @@ pub mod Ends
 pub mod Places
 pub mod Parts
 pub mod RoundTrip
+pub mod Sizes

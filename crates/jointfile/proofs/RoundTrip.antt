@@ -27,6 +27,7 @@ use Rattle.jointfile.specs.Write.{firstFields, secondFields, partOf, fir
 use Rattle.jointfile.specs.Answers.{PartHeld, Held, Writable, OtherTold, ToldBy}
 use Rattle.jointfile.specs.declared.FileKind.{FileKind}
 use Rattle.jointfile.specs.declared.FileKind.the-variants.{Old, New}
+use Rattle.jointfile.proofs.Answers.{stored-count}
 use Rattle.jointfile.proofs.Faces.{first-passes, second-passes, both-pass, first-rows-right, second-rows-right}
 use Rattle.jointfile.proofs.Parts.{take-small, append-small, zeros-small, PartRight, reads-part, TookPart, took-part}
 
@@ -47,9 +48,9 @@ module _ (joint : Joint) where
   second-long = refl
 
   module _ (kind : FileKind) where
-    stored-count : field 1 (take (storedFieldCount kind) (firstFields joint)) ≡ joint .face .rows
+    stored-first : field 1 (take (storedFieldCount kind) (firstFields joint)) ≡ joint .face .rows
     unfolding fieldsOf
-    stored-count = elim kind [ Old ↦ refl | New ↦ refl ]
+    stored-first = elim kind [ Old ↦ refl | New ↦ refl ]
 
     stored-long : length (take (storedFieldCount kind) (firstFields joint)) ≡ suc (otherFieldCount kind)
     unfolding fieldsOf
@@ -68,8 +69,8 @@ module _ (joint : Joint) (held : Held joint) (writable : Writable joint) where
               fields = take-small (storedFieldCount kind) (firstFields joint) (first .fields);
               levers = first .levers;
             };
-        rows = rw (stored-count joint kind) (first-rows-right joint (writable .rows));
-        spare = rw (stored-count joint kind) (first-passes (λ face. allZero (drop (face .rows) (face .levers))) joint (writable .spare));
+        rows = rw (stored-first joint kind) (first-rows-right joint (writable .rows));
+        spare = rw (stored-first joint kind) (first-passes (λ face. allZero (drop (face .rows) (face .levers))) joint (writable .spare));
       }
 
   second-right : twoFaced (joint .face .rows) ≡ true → PartRight false (secondFields joint) (joint .other .levers)
@@ -103,7 +104,7 @@ module _ (kind : FileKind) (joint : Joint) (held : Held joint) (writable : Writa
       let part =
       reads-part true (otherFieldCount kind) stored-fields (joint .face .levers) after (stored-long joint kind)
       (first-right joint held writable kind) in
-      rw (rw (stored-count joint kind) at part, whole)
+      rw (rw (stored-first joint kind) at part, whole)
 
   -- and the second, if there is one
   reads-second : (mark : Bool) → twoFaced (joint .face .rows) ≡ mark
@@ -178,3 +179,151 @@ written-back joint buffer held alone none = go (leb (length (file New joint)) (l
     go false short =
         let five : writing joint buffer .refusal ≡ 5 = rw (taken .rows, taken .spare, short) in
         absurd (omega arith)
+
+-- ---- what was read, written again
+
+-- What a joint that was read is: the bytes that were read are its file, which tells all of it, and it is one that the program can hold
+-- and `write` takes.
+pub record Took (kind : FileKind) (bytes : List ℕ) (joint : Joint) (left : List ℕ) : Type 0 where
+  pub form : file kind joint ++ left ≡ bytes
+  pub told : ToldBy kind joint
+  pub held : Held joint
+  pub writable : Writable joint
+
+lacking-small : (kind : FileKind) (k : ℕ) → getD (lacking kind) k 0 < 2 ^ 32
+lacking-small Old zero = omega arith
+lacking-small Old (suc k) = omega arith
+lacking-small New k = omega arith
+
+-- What follows the first part: the second, where there is one, and else nothing that is read.
+record TookSecond (two : Bool) (bytes own others left : List ℕ) : Type 0 where
+  form : cond two (partOf own (field 1 own) others) [] ++ left ≡ bytes
+  long : length own ≡ ownCount
+  held : PartHeld own others
+  right : two ≡ true → PartRight false own others
+  none : two ≡ false → secondFaceOf own others ≡ secondFaceOf (noPart .fields) (noPart .levers)
+
+took-both : {bytes own others left : List ℕ} → TookPart false (ownCount - 1) bytes own others left → TookSecond true bytes own others left
+took-both took =
+    record {
+      form = took .form;
+      long = took .long;
+      held = took .right .held;
+      right = λ two. took .right;
+      none = λ one. let z : _≡_ {A = ℕ} 0 1 = cc in absurd (omega arith);
+    }
+
+took-one : (left : List ℕ) → TookSecond false left (noPart .fields) (noPart .levers) left
+took-one left =
+    record {
+      form = refl;
+      long = refl;
+      held = record { eight = refl; fields = zeros-small ownCount; levers = zeros-small 8 };
+      right = λ two. let z : _≡_ {A = ℕ} 0 1 = cc in absurd (omega arith);
+      none = λ one. refl;
+    }
+
+-- field 1 stands in the first part, whatever it lacks
+field-1-of : (others : ℕ) (fields rest : List ℕ) → length fields ≡ suc others → field 1 (fields ++ rest) ≡ field 1 fields
+field-1-of others [] rest long = absurd (omega arith)
+field-1-of others (count ∷ numbers) rest long = refl
+
+module _ (kind : FileKind) (fields levers own others bytes bytes₁ left : List ℕ)
+    (first : TookPart true (otherFieldCount kind) bytes fields levers bytes₁)
+    (second : TookSecond (twoFaced (field 1 (fields ++ lacking kind))) bytes₁ own others left) where
+  abbrev whole-fields : List ℕ
+  whole-fields = fields ++ lacking kind
+
+  abbrev joint-read : Joint
+  joint-read = jointOf whole-fields levers own others
+
+  in-file : length fields ≡ storedFieldCount kind
+  in-file = first .long ∙ elim kind [ Old ↦ refl | New ↦ refl ]
+
+  same-count : field 1 whole-fields ≡ field 1 fields
+  same-count = field-1-of (otherFieldCount kind) fields (lacking kind) (first .long)
+
+  same-first : firstFields joint-read ≡ whole-fields
+  unfolding jointOf
+  same-first = fields-face whole-fields levers (rw length-append (omega (arith, in-file, stored-count kind .low)))
+
+  same-second : secondFields joint-read ≡ own
+  unfolding jointOf
+  same-second = own-face _ _ own others (second .long)
+
+  same-stored : take (storedFieldCount kind) (firstFields joint-read) ≡ fields
+  same-stored = ap (take (storedFieldCount kind)) same-first ∙ take-at fields (lacking kind) (storedFieldCount kind) in-file
+
+  same-file : file kind joint-read
+      ≡ partOf fields (firstRows (field 1 fields)) levers ++ cond (twoFaced (field 1 whole-fields)) (partOf own (field 1 own) others) []
+  unfolding file jointOf
+  same-file =
+      λ i. partOf (same-stored i) (firstRows (same-count i)) levers
+      ++ cond (twoFaced (field 1 whole-fields)) (partOf (same-second i) (field 1 own) others) []
+
+  took : Took kind bytes joint-read left
+  unfolding jointOf firstFace
+  took =
+      let right = first .right in
+      let rows : within rowCounts (firstRows (field 1 whole-fields)) ≡ true = rw same-count (right .rows) in
+      let spare : allZero (drop (firstRows (field 1 whole-fields)) levers) ≡ true = rw same-count (right .spare) in
+      record {
+        form = rw (same-file, append-assoc, second .form) (first .form);
+        told =
+            record {
+              lacks =
+                  ap (drop (storedFieldCount kind)) same-first ∙ drop-at fields (lacking kind) (storedFieldCount kind) in-file;
+              alone = second .none;
+            };
+        held =
+            record {
+              first =
+                  record {
+                    eight = right .held .eight;
+                    fields = rw same-first (append-small fields (lacking kind) (right .held .fields) (lacking-small kind));
+                    levers = right .held .levers;
+                  };
+              second = rw same-second (second .held);
+            };
+        writable =
+            record {
+              rows = both-pass (λ face. within rowCounts (face .rows)) joint-read rows (λ two. second .right two .rows);
+              spare =
+                  both-pass (λ face. allZero (drop (face .rows) (face .levers))) joint-read spare (λ two. second .right two .spare);
+            };
+      }
+
+-- the first part was read, and then the second, if there is one
+module _ (kind : FileKind) (fields levers bytes bytes₁ : List ℕ) (joint : Joint) (left : List ℕ) (all : Bytes bytes₁)
+    (first : TookPart true (otherFieldCount kind) bytes fields levers bytes₁)
+    (e : readSecond (fields ++ lacking kind) levers bytes₁ ≡ got joint left) where
+  took-second : (mark : Bool) → twoFaced (field 1 (fields ++ lacking kind)) ≡ mark → Took kind bytes joint left
+  unfolding readSecond
+  took-second true two =
+      let (part, end, read, e₁) =
+      then-got (readPart false (ownCount - 1) bytes₁)
+      (λ part rest. got (jointOf (fields ++ lacking kind) levers (part .fields) (part .levers)) rest) joint left (rw two at e) in
+      let is : jointOf (fields ++ lacking kind) levers (part .fields) (part .levers) ≡ joint = cc in
+      let ends : end ≡ left = cc in
+      let second = took-both (took-part false (ownCount - 1) bytes₁ part end all read) in
+      subst₂ (λ (j : Joint) (rest : List ℕ). Took kind bytes j rest) is ends
+      (took kind fields levers (part .fields) (part .levers) bytes bytes₁ end first (rw two second))
+  took-second false one =
+      let e₁ : got (jointOf (fields ++ lacking kind) levers (noPart .fields) (noPart .levers)) bytes₁ ≡ got joint left = rw one at e in
+      let is : jointOf (fields ++ lacking kind) levers (noPart .fields) (noPart .levers) ≡ joint = cc in
+      let ends : bytes₁ ≡ left = cc in
+      subst₂ (λ (j : Joint) (rest : List ℕ). Took kind bytes j rest) is ends
+      (took kind fields levers (noPart .fields) (noPart .levers) bytes bytes₁ bytes₁ first (rw one (took-one bytes₁)))
+
+-- Bytes that were read: the joint's file is those bytes, up to what is left. So there is one file of a kind for each joint.
+pub writes-again : (kind : FileKind) (bytes : List ℕ) (joint : Joint) (left : List ℕ) → Bytes bytes → readJoint kind bytes ≡ got joint left
+    → Took kind bytes joint left
+unfolding readJoint
+writes-again kind bytes joint left all e =
+    let (part, bytes₁, read, e₁) =
+    then-got (readPart true (otherFieldCount kind) bytes) (λ part rest. readSecond (part .fields ++ lacking kind) (part .levers) rest)
+    joint left e in
+    let first = took-part true (otherFieldCount kind) bytes part bytes₁ all read in
+    let all₁ =
+    bytes-left (partOf (part .fields) (firstRows (field 1 (part .fields))) (part .levers)) bytes₁ bytes (first .form) all in
+    took-second kind (part .fields) (part .levers) bytes bytes₁ joint left all₁ first e₁ _ refl
