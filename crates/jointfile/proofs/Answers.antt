@@ -1,7 +1,7 @@
 -- Reading a joint and writing one, case by case: what the definition gives for each place where the code stops.
 -- Assumes nothing.
 use Prim.Native.Nat.{ℕ, zero, suc, _-_, _≤_}
-use mathlib.Core.Path.{_≡_, refl, sym, ap, _∙_}
+use mathlib.Core.Path.{_≡_, refl, sym, _∙_}
 use mathlib.Core.List.{List, [], _∷_, _++_, append-nil}
 use mathlib.Core.Bool.{Bool, true, false}
 use native.Mathlib.Omega.{arith}
@@ -15,17 +15,16 @@ use Rattle.joint.specs.Ranges.{rowCounts}
 use Rattle.joint.specs.Faces.{twoFaced}
 use Rattle.joint.specs.Places.{eightPlaces}
 use Rattle.joint.specs.declared.Joint.{Joint}
-use Rattle.numbers.specs.Run.{readNumbers}
 use Rattle.numbers.specs.Parse.{got, refused}
 use Rattle.numbers.specs.Answers.{NumberRead, RunRead}
 use Rattle.numbers.specs.declared.number.Number.{Number}
 use Rattle.numbers.specs.declared.number.Number.the-variants.{Value, Refused as NumberRefused}
 use Rattle.numbers.specs.declared.run.Run.{Run}
 use Rattle.numbers.specs.declared.run.Run.the-variants.{Next, Refused}
-use Rattle.fields.specs.Fields.{fieldCount, field, ownCount, jointOf}
+use Rattle.fields.specs.Fields.{fieldCount, field, jointOf}
 use Rattle.jointfile.specs.File.{untoldEndDistance, lacking, storedFieldCount, otherFieldCount, noPart, rowsBy}
 use Rattle.jointfile.specs.File.{readOthers, readPart, readSecond, readJoint, answer}
-use Rattle.jointfile.specs.Write.{file, wrote, turnedDown, rowsCheck, spareCheck, writing}
+use Rattle.jointfile.specs.Write.{file, turnedDown, rowsCheck, spareCheck, writing}
 use Rattle.jointfile.specs.Answers.{partMeaning, OthersRead, PartRead, writingIfRoom}
 use Rattle.jointfile.specs.declared.FileKind.{FileKind}
 use Rattle.jointfile.specs.declared.FileKind.the-variants.{Old, New}

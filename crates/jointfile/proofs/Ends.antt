@@ -1,5 +1,5 @@
--- Reading a joint of either kind leaves an end of the bytes, whatever they are, and takes at least a byte: the part of the first face leaves
--- an end of them, and that of the second an end of that. Assumes nothing.
+-- Reading a joint of either kind leaves an end of the bytes, whatever they are, and takes at least a byte: the part of the first face
+-- leaves an end of them, and that of the second an end of that. Assumes nothing.
 use Prim.Native.Nat.{ℕ, _-_, _<_}
 use mathlib.Core.Path.{_≡_}
 use mathlib.Core.List.{List, _++_}
@@ -40,7 +40,8 @@ unfolding readPart
 part-shorter first others bytes part left e =
     let (count, rest, number, follows) =
     then-got (readNumber bytes)
-    (λ count rest. cond (within rowCounts (rowsBy first count)) (readOthers others count (rowsBy first count) rest) (refused 3)) part left e in
+    (λ count rest. cond (within rowCounts (rowsBy first count)) (readOthers others count (rowsBy first count) rest) (refused 3))
+    part left e in
     let end : EndOf rest left = rw follows at (after-count first others count rest) in
     omega (arith, end .short, number-shorter bytes count rest number)
 

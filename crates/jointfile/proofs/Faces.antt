@@ -16,7 +16,8 @@ module _ (test : Face → Bool) (joint : Joint) where
   pub first-fails : test (firstFace (joint .face)) ≡ false → false ≡ onFaces test joint
   first-fails first = rw first
 
-  pub second-decides : test (firstFace (joint .face)) ≡ true → twoFaced (joint .face .rows) ≡ true → test (joint .other) ≡ onFaces test joint
+  pub second-decides : test (firstFace (joint .face)) ≡ true → twoFaced (joint .face .rows) ≡ true
+      → test (joint .other) ≡ onFaces test joint
   second-decides first two = rw (first, two)
 
   pub first-decides : test (firstFace (joint .face)) ≡ true → twoFaced (joint .face .rows) ≡ false → true ≡ onFaces test joint

@@ -156,10 +156,12 @@ took-others first others bytes count bytes₁ part left all number right e =
     let rows = rowsBy first count in
     let (numbers, bytes₂, read, e₁) =
     then-got (readNumbers others bytes₁)
-    (λ numbers rest. andThen (readNumbers rows rest) (λ levers end. got (record { fields = count ∷ numbers; levers = eightPlaces levers }) end))
+    (λ numbers rest. andThen (readNumbers rows rest)
+    (λ levers end. got (record { fields = count ∷ numbers; levers = eightPlaces levers }) end))
     part left e in
     let (levers, end, read′, e₂) =
-    then-got (readNumbers rows bytes₂) (λ levers end. got (record { fields = count ∷ numbers; levers = eightPlaces levers }) end) part left e₁ in
+    then-got (readNumbers rows bytes₂) (λ levers end. got (record { fields = count ∷ numbers; levers = eightPlaces levers }) end)
+    part left e₁ in
     let form = stored-read bytes count bytes₁ all number in
     let all₁ = bytes-left (stored count) bytes₁ bytes form all in
     let taken = taken-all others bytes₁ numbers bytes₂ all₁ read in
@@ -175,7 +177,8 @@ unfolding readPart
 took-part first others bytes part left all e =
     let (count, bytes₁, number, e₁) =
     then-got (readNumber bytes)
-    (λ count rest. cond (within rowCounts (rowsBy first count)) (readOthers others count (rowsBy first count) rest) (refused 3)) part left e in
+    (λ count rest. cond (within rowCounts (rowsBy first count)) (readOthers others count (rowsBy first count) rest) (refused 3))
+    part left e in
     counted count bytes₁ number (within rowCounts (rowsBy first count)) refl e₁
   where
     counted : (count : ℕ) (bytes₁ : List ℕ) → readNumber bytes ≡ got count bytes₁ → (t : Bool) → within rowCounts (rowsBy first count) ≡ t

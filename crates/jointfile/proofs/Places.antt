@@ -16,7 +16,8 @@ use Rattle.numbers.specs.Parse.{Parse, got, refused}
 use Rattle.numbers.specs.Number.{readNumber}
 use Rattle.numbers.proofs.Refusals.{Numbered, numbered-cond, numbered-then, numbered-number, numbered-numbers}
 use Rattle.fields.specs.Fields.{field, ownCount}
-use Rattle.jointfile.specs.File.{lacking, otherFieldCount, rowsBy, readOthers, readPart, readSecond, readJoint, answer, reading, leftOf, restOf}
+use Rattle.jointfile.specs.File.{lacking, otherFieldCount, rowsBy, readOthers, readPart, readSecond, readJoint}
+use Rattle.jointfile.specs.File.{answer, reading, leftOf, restOf}
 use Rattle.jointfile.specs.declared.FileKind.{FileKind}
 use Rattle.jointfile.proofs.Ends.{joint-end}
 

@@ -1,8 +1,8 @@
--- The round trip of a joint file of either kind, of one face or of two. A joint's file reads back to the same joint, with anything after it,
--- and leaves exactly that; and bytes that were read are the file of the joint. Part by part, and then field by field. Of the old kind it is
--- a law about files alone, since none is written. Assumes nothing.
+-- The round trip of a joint file of either kind, of one face or of two. A joint's file reads back to the same joint, with anything after
+-- it, and leaves exactly that; and bytes that were read are the file of the joint. Part by part, and then field by field. Of the old kind
+-- it is a law about files alone, since none is written. Assumes nothing.
 use Prim.Native.Nat.{ℕ, zero, suc, _-_, _^_, _<_}
-use mathlib.Core.Path.{_≡_, refl, sym, ap, ap₂, _∙_, subst₂}
+use mathlib.Core.Path.{_≡_, refl, sym, ap, _∙_, subst₂}
 use mathlib.Core.List.{List, [], _∷_, _++_, append-assoc}
 use mathlib.Core.Bool.{Bool, true, false, cond}
 use native.Mathlib.Omega.{arith}
@@ -19,7 +19,7 @@ use Rattle.numbers.specs.Parse.{got}
 use Rattle.numbers.specs.Number.{Bytes}
 use Rattle.numbers.proofs.Parsing.{then-got}
 use Rattle.numbers.proofs.RunCodec.{bytes-left}
-use Rattle.fields.specs.Fields.{fieldCount, field, ownCount, ownOf, secondFaceOf, jointOf, fieldsOf}
+use Rattle.fields.specs.Fields.{field, ownCount, ownOf, secondFaceOf, jointOf, fieldsOf}
 use Rattle.fields.proofs.Order.{fields-face, own-face, joint-fields}
 use Rattle.jointfile.specs.File.{untoldEndDistance, lacking, storedFieldCount, otherFieldCount, noPart}
 use Rattle.jointfile.specs.File.{readPart, readSecond, readJoint}
@@ -98,7 +98,8 @@ module _ (kind : FileKind) (joint : Joint) (held : Held joint) (writable : Writa
       ∙ take-append-drop (storedFieldCount kind) (firstFields joint)
 
   -- the first part reads back
-  reads-first : (after : List ℕ) → readJoint kind (firstPart kind joint ++ after) ≡ readSecond (firstFields joint) (joint .face .levers) after
+  reads-first : (after : List ℕ)
+      → readJoint kind (firstPart kind joint ++ after) ≡ readSecond (firstFields joint) (joint .face .levers) after
   unfolding readJoint
   reads-first after =
       let part =

@@ -80,13 +80,14 @@ pub record Writable (joint : Joint) : Type 0 where
 abbrev pub OtherTold : Joint → Type 0
 OtherTold joint = twoFaced (joint .face .rows) ≡ false → joint .other ≡ secondFaceOf (noPart .fields) (noPart .levers)
 
--- A joint that a file of this kind tells whole: the fields that the file lacks, and the face that it has none of, are as reading gives them.
+-- A joint that a file of this kind tells whole: the fields that the file lacks, and the face that it has none of, are as reading gives
+-- them.
 pub record ToldBy (kind : FileKind) (joint : Joint) : Type 0 where
   pub lacks : drop (storedFieldCount kind) (firstFields joint) ≡ lacking kind
   pub alone : OtherTold joint
 
--- No file of the new kind is shorter: a byte for each field and for one lever; and with a second face, one for each field that it has of its
--- own and for one lever of it.
+-- No file of the new kind is shorter: a byte for each field and for one lever; and with a second face, one for each field that it has of
+-- its own and for one lever of it.
 abbrev pub leastFile : ℕ
 leastFile = fieldCount + 1
 

@@ -1,5 +1,5 @@
--- Writing a joint file (rules 9.2 and 9.6 to 9.8): the file of a joint, what is refused in which order, and what the buffer holds afterwards.
--- Assumes nothing.
+-- Writing a joint file (rules 9.2 and 9.6 to 9.8): the file of a joint, what is refused in which order, and what the buffer holds
+-- afterwards. Assumes nothing.
 use Prim.Native.Nat.{ℕ}
 use mathlib.Core.List.{List, [], _∷_, _++_}
 use mathlib.Core.Bool.{cond}

@@ -255,11 +255,12 @@ fn has_zero_spares(joint: Joint) -> bool
 {
     let face = joint.face;
     let other = joint.other;
+    let count = face.rows;
     let levers = face.levers;
-    if !is_spare_zero(first_rows(face.rows), levers) {
+    if !is_spare_zero(first_rows(count), levers) {
         return false;
     }
-    if is_two_faced(face.rows) {
+    if is_two_faced(count) {
         let other_levers = other.levers;
         return is_spare_zero(other.rows, other_levers);
     }

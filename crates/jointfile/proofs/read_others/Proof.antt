@@ -1,9 +1,6 @@
 -- `read_others` meets its contract: the other fields are read, and then as many levers as there are rows. Assumes nothing.
-use Prim.Native.Nat.{ℕ}
-use mathlib.Core.Path.{_≡_, sym, ap, _∙_}
-use mathlib.Core.List.{List}
-use native.Mathlib.Omega.{arith}
-use lib.ListN.{length, take, drop, replicate}
+use mathlib.Core.Path.{_≡_, sym, _∙_}
+use lib.ListN.{length, take}
 use lib.Seq.{length-take-le}
 use denote.Ref.{now}
 use Rattle.jointfile.proofs.Answers.{others-stopped, others-taken}

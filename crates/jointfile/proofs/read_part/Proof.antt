@@ -1,16 +1,12 @@
 -- `read_part` meets its contract: the row count is refused, is no row count, or is followed by what `read_others` reads.
 -- Assumes nothing.
-use Prim.Native.Nat.{ℕ}
 use mathlib.Core.Path.{_≡_, sym, ap, _∙_}
 use mathlib.Core.Bool.{true}
 use native.Mathlib.Omega.{arith}
-use lib.ListN.{length}
 use denote.Ref.{now}
 use Rattle.arithmetic.specs.Range.{within}
 use Rattle.joint.specs.Ranges.{rowCounts}
-use Rattle.numbers.specs.Answers.{numberMeaning, nextPlace, refusalNumber, NumberRead}
-use Rattle.numbers.specs.declared.number.Number.the-variants.{Value}
-use Rattle.jointfile.specs.File.{rowsBy}
+use Rattle.numbers.specs.Answers.{refusalNumber}
 use Rattle.jointfile.proofs.Faces.{row-count}
 use Rattle.jointfile.proofs.Answers.{part-stopped, part-refused, part-taken, lent-others, counted}
 use borrow.Author.Needs.{needs}

@@ -1,7 +1,6 @@
 -- `read_second` meets its contract: the second part is refused, or the joint has both. Assumes nothing.
 use mathlib.Core.Path.{sym, ap, _∙_}
 use native.Mathlib.Omega.{arith}
-use denote.Ref.{now}
 use Rattle.numbers.specs.Answers.{endPlace, runRefusal}
 use Rattle.jointfile.specs.File.{answer}
 use Rattle.jointfile.proofs.Answers.{second-stopped, second-taken, answer-got}

@@ -5,11 +5,9 @@ use mathlib.Core.Bool.{true}
 use native.Mathlib.Omega.{arith}
 use lib.ListN.{length, length-take}
 use lib.Seq.{length-take-le}
-use denote.Ref.{now}
 use Rattle.joint.specs.Faces.{twoFaced}
 use Rattle.fields.specs.Fields.{ownOf}
 use Rattle.jointfile.specs.Write.{secondFields}
-use Rattle.jointfile.specs.Answers.{writingIfRoom}
 use Rattle.jointfile.proofs.Faces.{first-rows-few, second-rows-few}
 use Rattle.jointfile.proofs.IfRoom.{own-count, file-alone, file-both, first-counts}
 use borrow.Author.Needs.{needs}
@@ -116,7 +114,11 @@ put-file-requires c κs =
     let joint = s .args .joint in
     first-counts joint (first asked-two .fields-of .ensures) (rows asked-two .before .before .levers-of .ensures)
     (rows asked-two .first-rows .ensures) (s .pre) _ _ (rw (own own-read) (own-count joint))
-    (omega (arith, length-take (joint .other .rows) (rows asked-two .before .levers-of2 .result), second-rows-few joint (s .pre) (two own-read)))
+    (omega (
+      arith,
+      length-take (joint .other .rows) (rows asked-two .before .levers-of2 .result),
+      second-rows-few joint (s .pre) (two own-read),
+    ))
 
 same-length : tie.Need-same-length
 same-length c = search needs
