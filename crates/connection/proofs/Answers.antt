@@ -1,14 +1,15 @@
 -- What the refusals leave: from an answer that is no refusal, that every test of the list holds, and from those tests what the limits
 -- rely on. Assumes nothing.
 use mathlib.Core.Path.{_≡_, refl, sym, ap, _∙_}
-use mathlib.Core.Bool.{Bool, true, false, _&&_, _||_}
+use mathlib.Core.Bool.{Bool, true, false, cond, _&&_, _||_}
+use mathlib.Core.List.{List, [], _∷_}
 use Prim.Native.Nat.{ℕ, suc}
 use native.Mathlib.Omega.{arith}
 use lib.ListN.{length}
 use lib.Dec.{ltb}
 use borrow.Author.Tests.{ltb-false, eq-eqb, not-true}
-use Rattle.arithmetic.specs.Checks.{firstFailing, checksBefore}
-use Rattle.arithmetic.proofs.Checks.{numbered, positive, numbered-holds}
+use Rattle.arithmetic.specs.Checks.{Check, firstFailing, checksBefore}
+use Rattle.arithmetic.proofs.Checks.{numbered, positive, numbered-holds, of-each}
 use Rattle.joint.specs.Ranges.{rowCounts}
 use Rattle.joint.specs.Fields.{fieldCheck}
 use Rattle.joint.specs.InRange.{ColumnInRange, FaceInRange, InRange}
@@ -25,6 +26,8 @@ use Rattle.tension.specs.Admissible.{Admissible}
 use Rattle.refusals.specs.Refusals.{leversFall, tooTight}
 use Rattle.refusals.proofs.Rows.{falls}
 use Rattle.outcome.specs.declared.Outcome.{Outcome}
+use Rattle.outcome.specs.declared.PanelVerdict.{PanelVerdict}
+use Rattle.outcome.specs.declared.PanelVerdict.the-variants.{NotAsked}
 use Rattle.connection.specs.Connection.{refusedOutcome, refusedFace, refusalsAfter10, completed, resultOf, workedFace, workedBy}
 use Rattle.connection.specs.Connection.{workedConnection}
 use Rattle.connection.specs.declared.Admission.the-variants.{Admitted, Refused}
@@ -96,3 +99,29 @@ in-range-of panelCounts column bolts face answer e none = by-fields (fieldCheck 
         → InRange column bolts face × (workedFace panelCounts column (boltStrengths bolts) face ≡ answer)
     by-fields AllInRange found w = (in-range column bolts face found, w)
     by-fields (Outside field) found w = let never = refusal-is 10 field 0 answer w none in absurd (omega arith)
+
+-- ---- a face worked alone asks nothing of the panel
+
+always : (answer : PanelVerdict) (checks : List Check) → firstFailing answer (λ number. answer) checks ≡ answer
+unfolding firstFailing
+always answer [] = refl
+always answer (check ∷ checks) = by-test (check .1) (always answer checks)
+  where
+    by-test : (test : Bool) → firstFailing answer (λ number. answer) checks ≡ answer
+        → cond test (firstFailing answer (λ number. answer) checks) answer ≡ answer
+    by-test true rest = rest
+    by-test false rest = refl
+
+pub panel-not-asked : (panelCounts : Bool) (column : Column) (bolts : Bolts) (face : Face)
+    → workedConnection panelCounts column bolts face .panel ≡ NotAsked
+unfolding workedConnection workedFace
+panel-not-asked panelCounts column bolts face = by-fields (fieldCheck column bolts face)
+  where
+    checks : List Check
+    checks = refusalsAfter10 panelCounts column (boltStrengths bolts) face
+
+    by-fields : (found : FieldCheck) → workedBy found (workedFace panelCounts column (boltStrengths bolts) face) .panel ≡ NotAsked
+    by-fields AllInRange =
+        of-each (λ (outcome : Outcome). outcome .panel) (completed (resultOf panelCounts column (boltStrengths bolts) face)) refusedFace checks
+        ∙ always NotAsked checks
+    by-fields (Outside field) = refl

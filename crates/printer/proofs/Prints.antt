@@ -17,8 +17,10 @@ use Rattle.buffers.specs.Put.{atFront, Put}
 use Rattle.buffers.proofs.Puts.{sets-append, sets-front, put-length}
 use Rattle.items.specs.Digits.{digits}
 use Rattle.items.specs.Items.{spaced}
-use Rattle.printer.specs.Sheet.{sheetKind, linesOf, overLong, concatenated}
-use Rattle.printer.specs.Answers.{whole, noRoom, printing, readingLine}
+use Rattle.line.specs.Line.{concatenated}
+use Rattle.line.proofs.Lines.{concatenated-append}
+use Rattle.printer.specs.Sheet.{sheetKind, linesOf, overLong}
+use Rattle.printer.specs.Answers.{whole, noRoom, printing, readingLines}
 use Rattle.printer.proofs.Walk.{lines-none, lines-next, next-positive}
 
 -- ---- what printing comes to
@@ -84,23 +86,22 @@ module _ {input : List ℕ} {from number size : ℕ} (head : WalkHead input from
     walk-onward = rw is (next-positive (drop from input) some-left)
 
     -- the lines left are that of the next joint and the others
-    pub lines-here : linesFrom input from number ≡ readingLine number answer ++ linesFrom input (from + answer .next) (number + 1)
-    unfolding concatenated
+    pub lines-here : linesFrom input from number ≡ concatenated (readingLines number answer) ++ linesFrom input (from + answer .next) (number + 1)
     lines-here =
         rw is
-        (ap concatenated (lines-next number (drop from input) some-left)
-        ∙ ap (λ (bytes : List ℕ). readingLine number (reading sheetKind (drop from input)) ++ concatenated (linesOf (number + 1) bytes))
+        (ap concatenated (lines-next number (drop from input) some-left) ∙ concatenated-append _ _
+        ∙ ap (λ (bytes : List ℕ). concatenated (readingLines number (reading sheetKind (drop from input))) ++ concatenated (linesOf (number + 1) bytes))
         (drop-drop (reading sheetKind (drop from input) .next) from input))
 
     sizes-here : length (linesFrom input from number)
-        ≡ length (readingLine number answer) + length (linesFrom input (from + answer .next) (number + 1))
-    sizes-here = ap length lines-here ∙ length-append (readingLine number answer) _
+        ≡ length (concatenated (readingLines number answer)) + length (linesFrom input (from + answer .next) (number + 1))
+    sizes-here = ap length lines-here ∙ length-append (concatenated (readingLines number answer)) _
 
     -- the line is one of all
-    pub walk-size : size + length (readingLine number answer) ≤ length (allLines input)
+    pub walk-size : size + length (concatenated (readingLines number answer)) ≤ length (allLines input)
     walk-size = omega (arith, head .left, sizes-here)
 
-    pub walk-on : {taken : ℕ} → taken ≡ length (readingLine number answer)
+    pub walk-on : {taken : ℕ} → taken ≡ length (concatenated (readingLines number answer))
         → WalkHead input (from + answer .next) (number + 1) (size + taken)
     walk-on measured =
         record {
@@ -127,10 +128,10 @@ module _ {input output₀ output : List ℕ} {from number at : ℕ} (head : PutH
       }
 
   module _ (inside : from < length input) {answer : Reading} (is : answer ≡ reading sheetKind (drop from input)) where
-    pub put-room : length (allLines input) ≤ length output₀ → at + length (readingLine number answer) ≤ length output
+    pub put-room : length (allLines input) ≤ length output₀ → at + length (concatenated (readingLines number answer)) ≤ length output
     put-room room = omega (arith, head .holds, walk-size (head .walk) inside is)
 
-    pub put-on : {exit : List ℕ} {next : ℕ} → Put output at (readingLine number answer) exit next
+    pub put-on : {exit : List ℕ} {next : ℕ} → Put output at (concatenated (readingLines number answer)) exit next
         → PutHead input output₀ exit (from + answer .next) (number + 1) next
     put-on put =
         record {
@@ -138,6 +139,6 @@ module _ {input output₀ output : List ℕ} {from number at : ℕ} (head : PutH
           holds = put-length put ∙ head .holds;
           writes =
               rw (put .stores, put .place)
-              (sym (sets-append output at (readingLine number answer) _)
+              (sym (sets-append output at (concatenated (readingLines number answer)) _)
               ∙ ap (sets output at) (sym (lines-here (head .walk) inside is)) ∙ head .writes);
         }

@@ -1,72 +1,72 @@
--- How long a sheet can be: there is at most a line for each shortest file and one for the rest, each of at most the longest line's bytes.
+-- How long a sheet can be: there is at most a line for each so many bytes and one for the rest, each of at most the longest line's bytes.
 -- So an output of `mostSheet` bytes holds any sheet. Assumes nothing.
 use Prim.Native.Nat.{ℕ, zero, suc, _+_, _-_, _*_, _≤_}
-use mathlib.Core.Path.{_≡_, refl}
+use mathlib.Core.Path.{_≡_, refl, ap}
 use mathlib.Core.List.{List, [], _∷_, _++_}
-use mathlib.Core.Bool.{Bool, true, false, cond, and-eq-true-iff}
+use mathlib.Core.Bool.{Bool, true, false, cond}
 use native.Mathlib.Omega.{arith}
-use borrow.Author.Tests.{leb-true, ltb-false, le-leb}
-use lib.Dec.{leb, ltb}
-use lib.ListN.{length, take, length-append, length-take}
-use Rattle.arithmetic.specs.Range.{within}
-use Rattle.joint.specs.Ranges.{rowCounts}
+use borrow.Author.Tests.{ltb-false, le-leb}
+use lib.Dec.{ltb}
+use lib.ListN.{length, length-append}
+use Rattle.joint.specs.Faces.{twoFaced, firstRows}
 use Rattle.joint.specs.declared.Joint.{Joint}
 use Rattle.numbers.specs.Parse.{Parse, got, refused}
 use Rattle.numbers.specs.Number.{Bytes}
-use Rattle.fields.specs.Fields.{fieldsOf}
 use Rattle.jointfile.specs.File.{readJoint}
-use Rattle.numbers.specs.Run.{storedAll}
-use Rattle.jointfile.specs.Answers.{leastFile}
-use Rattle.jointfile.specs.Write.{fileOf, file}
-use Rattle.numbers.proofs.Sizes.{groups-positive}
+use Rattle.jointfile.specs.Write.{file}
 use Rattle.numbers.proofs.RunCodec.{bytes-left}
 use Rattle.jointfile.proofs.RoundTrip.{Took, writes-again}
+use Rattle.jointfile.proofs.Sizes.{file-size, two-faced-size}
 use Rattle.items.specs.Digits.{digits}
 use Rattle.items.specs.Items.{spaced}
+use Rattle.outcome.specs.declared.PanelVerdict.{PanelVerdict}
 use Rattle.line.specs.Longest.{mostLine}
-use Rattle.line.proofs.Lines.{refusal-short, outcome-short}
+use Rattle.line.specs.Line.{isAsked, concatenated}
+use Rattle.line.proofs.Lines.{refusal-short, concatenated-append, outcome-few, outcome-short}
 use Rattle.work.specs.Work.{worked}
-use Rattle.printer.specs.Sheet.{sheetKind, mostInput, lineThen, linesWithin, linesOf, overLong, sheetLines, concatenated, sheetOf}
-use Rattle.printer.specs.Answers.{whole, printing, mostPrinted, mostSheet}
+use Rattle.work.proofs.Cases.{panel-alone}
+use Rattle.printer.specs.Sheet.{sheetKind, mostInput, jointLines, linesThen, linesWithin, linesOf, overLong, sheetLines}
+use Rattle.printer.specs.Sheet.{sheetOf}
+use Rattle.printer.specs.Answers.{whole, printing, leastPerLine, mostPrinted, mostSheet}
 use Rattle.buffers.specs.Put.{atFront}
 
-storedAll-long : (xs : List ℕ) → length xs ≤ length (storedAll xs)
-unfolding storedAll
-storedAll-long [] = omega arith
-storedAll-long (x ∷ xs) = rw length-append (omega (arith, groups-positive 4 x, storedAll-long xs))
+-- a joint's lines take so many bytes each: it has two only if it has two faces
+joint-lines : (number : ℕ) (bytes : List ℕ) (joint : Joint) (left : List ℕ) → Took sheetKind bytes joint left
+    → length left + leastPerLine * length (jointLines number joint) ≤ length bytes
+joint-lines number bytes joint left took = go (twoFaced (joint .face .rows)) refl
+  where
+    few : length (jointLines number joint) ≤ cond (isAsked (worked joint .panel)) 2 1
+    few = outcome-few number (firstRows (joint .face .rows)) (joint .other .rows) (worked joint)
 
-some-row : (rows : ℕ) → within rowCounts rows ≡ true → 1 ≤ rows
-some-row rows count = leb-true 1 rows (and-eq-true-iff (leb 1 rows) (leb rows 8) .0 count .0)
+    two : (t : Bool) → cond t 2 1 ≤ 2
+    two true = omega arith
+    two false = omega arith
 
--- the fields and a lever take a byte each, or more
-file-size : (bytes : List ℕ) (joint : Joint) (left : List ℕ) → Took sheetKind bytes joint left → length left + leastFile ≤ length bytes
-unfolding fileOf fieldsOf
-file-size bytes joint left took =
-    let rows = joint .face .rows in
-    let levers = joint .face .levers in
-    rw (← took .form, length-append (file sheetKind joint) left)
-    (omega (
-      arith,
-      storedAll-long (fieldsOf joint ++ take rows levers),
-      length-append (fieldsOf joint) (take rows levers),
-      length-take rows levers,
-      took .held .eight,
-      some-row rows (took .writable .rows),
-    ))
+    go : (t : Bool) → twoFaced (joint .face .rows) ≡ t
+        → length left + leastPerLine * length (jointLines number joint) ≤ length bytes
+    go true both = omega (arith, few, two (isAsked (worked joint .panel)), two-faced-size bytes joint left took both)
+    go false alone =
+        let one : cond (isAsked (worked joint .panel)) 2 1 ≡ 1 = ap (λ (panel : PanelVerdict). cond (isAsked panel) 2 1) (panel-alone joint alone) in
+        omega (arith, few, one, file-size bytes joint left took)
 
 lines-few : (most number : ℕ) (bytes : List ℕ) → Bytes bytes
-    → leastFile * length (linesWithin most number bytes) ≤ length bytes + (leastFile - 1)
+    → leastPerLine * length (linesWithin most number bytes) ≤ length bytes + (leastPerLine - 1)
 unfolding linesWithin
 lines-few zero number bytes all = omega arith
 lines-few (suc most) number [] all = omega arith
 lines-few (suc most) number (byte ∷ bytes) all = go (lines-few most (number + 1)) (readJoint sheetKind (byte ∷ bytes)) refl
   where
-    go : ((left : List ℕ) → Bytes left → leastFile * length (linesWithin most (number + 1) left) ≤ length left + (leastFile - 1))
+    go : ((left : List ℕ) → Bytes left → leastPerLine * length (linesWithin most (number + 1) left) ≤ length left + (leastPerLine - 1))
         → (parse : Parse Joint) → readJoint sheetKind (byte ∷ bytes) ≡ parse
-        → leastFile * length (lineThen (linesWithin most (number + 1)) number parse) ≤ length (byte ∷ bytes) + (leastFile - 1)
+        → leastPerLine * length (linesThen (linesWithin most (number + 1)) number parse) ≤ length (byte ∷ bytes) + (leastPerLine - 1)
     go few (got joint left) e =
         let took = writes-again sheetKind (byte ∷ bytes) joint left all e in
-        omega (arith, few left (bytes-left (file sheetKind joint) left (byte ∷ bytes) (took .form) all), file-size (byte ∷ bytes) joint left took)
+        rw (length-append (jointLines number joint) (linesWithin most (number + 1) left))
+        (omega (
+          arith,
+          few left (bytes-left (file sheetKind joint) left (byte ∷ bytes) (took .form) all),
+          joint-lines number (byte ∷ bytes) joint left took,
+        ))
     go few (refused r) e = omega arith
 
 lines-short : (most number : ℕ) (bytes : List ℕ)
@@ -79,10 +79,12 @@ lines-short (suc most) number (byte ∷ bytes) = go (lines-short most (number + 
     go : ((left : List ℕ)
         → length (concatenated (linesWithin most (number + 1) left)) ≤ mostLine * length (linesWithin most (number + 1) left))
         → (parse : Parse Joint)
-        → length (concatenated (lineThen (linesWithin most (number + 1)) number parse))
-        ≤ mostLine * length (lineThen (linesWithin most (number + 1)) number parse)
+        → length (concatenated (linesThen (linesWithin most (number + 1)) number parse))
+        ≤ mostLine * length (linesThen (linesWithin most (number + 1)) number parse)
     go short (got joint left) =
-        rw length-append (omega (arith, short left, outcome-short number (joint .face .rows) (worked joint)))
+        let others = linesWithin most (number + 1) left in
+        rw (concatenated-append (jointLines number joint) others, length-append (concatenated (jointLines number joint)), length-append (jointLines number joint) others)
+        (omega (arith, short left, outcome-short number (firstRows (joint .face .rows)) (joint .other .rows) (worked joint)))
     go short (refused r) = rw length-append (omega (arith, refusal-short number (r ∷ []) (omega arith)))
 
 -- the lines of so many bytes are no longer than `mostPrinted` says

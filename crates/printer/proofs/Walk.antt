@@ -1,8 +1,8 @@
--- Walking the input: the lines of bytes that aren't all read are the line of what `read` answers of them, and the lines from the place
+-- Walking the input: the lines of bytes that aren't all read are those of what `read` answers of them, and the lines from the place
 -- after it on. The bound on the count of lines never tells, since each joint takes bytes. Assumes nothing.
 use Prim.Native.Nat.{ℕ, zero, suc, _+_, _≤_, _<_}
 use mathlib.Core.Path.{_≡_, refl, ap, _∙_}
-use mathlib.Core.List.{List, [], _∷_}
+use mathlib.Core.List.{List, [], _∷_, _++_}
 use mathlib.Core.Bool.{Bool, true, false}
 use native.Mathlib.Omega.{arith}
 use borrow.Author.Tests.{eqb-true, eqb-false, eq-eqb, ne-eqb, lt-ltb, le-ltb}
@@ -14,9 +14,9 @@ use Rattle.jointfile.specs.File.{readJoint, answer, reading, leftOf, restOf}
 use Rattle.jointfile.specs.declared.Reading.{Reading}
 use Rattle.jointfile.proofs.Ends.{joint-shorter}
 use Rattle.jointfile.proofs.Places.{next-left, read-taken, read-refused}
-use Rattle.line.specs.Line.{refusalLine}
-use Rattle.printer.specs.Sheet.{sheetKind, Line, mostInput, jointLine, lineThen, linesWithin, linesOf, overLong, sheetLines}
-use Rattle.printer.specs.Answers.{readingLine}
+use Rattle.line.specs.Line.{Line, refusalLine}
+use Rattle.printer.specs.Sheet.{sheetKind, mostInput, jointLines, linesThen, linesWithin, linesOf, overLong, sheetLines}
+use Rattle.printer.specs.Answers.{readingLines}
 
 -- any bound that the count of bytes keeps gives the same lines
 lines-same : (most most′ number : ℕ) (bytes : List ℕ) → length bytes ≤ most → length bytes ≤ most′
@@ -34,7 +34,7 @@ lines-same (suc most) (suc most′) number (byte ∷ bytes) h h′ =
     go : ((left : List ℕ) → length left ≤ most → length left ≤ most′
         → linesWithin most (number + 1) left ≡ linesWithin most′ (number + 1) left)
         → (parse : Parse Joint) → readJoint sheetKind (byte ∷ bytes) ≡ parse
-        → lineThen (linesWithin most (number + 1)) number parse ≡ lineThen (linesWithin most′ (number + 1)) number parse
+        → linesThen (linesWithin most (number + 1)) number parse ≡ linesThen (linesWithin most′ (number + 1)) number parse
     go same (got joint left) e =
         let shorter = joint-shorter sheetKind (byte ∷ bytes) joint left e in
         rw (same left (omega arith) (omega arith))
@@ -45,8 +45,8 @@ unfolding linesWithin
 lines-none number = refl
 
 pub lines-next : (number : ℕ) (bytes : List ℕ) → 0 < length bytes
-    → linesOf number bytes ≡ readingLine number (reading sheetKind bytes) ∷ linesOf (number + 1) (drop (reading sheetKind bytes .next) bytes)
-unfolding linesWithin readingLine
+    → linesOf number bytes ≡ readingLines number (reading sheetKind bytes) ++ linesOf (number + 1) (drop (reading sheetKind bytes .next) bytes)
+unfolding linesWithin readingLines
 lines-next number [] some = absurd (omega arith)
 lines-next number (byte ∷ bytes) some = go (eqb (reading sheetKind input .refusal) 0) refl
   where
@@ -57,21 +57,21 @@ lines-next number (byte ∷ bytes) some = go (eqb (reading sheetKind input .refu
     others = linesWithin (length bytes) (number + 1)
 
     go : (t : Bool) → eqb (reading sheetKind input .refusal) 0 ≡ t
-        → lineThen others number (readJoint sheetKind input)
-        ≡ readingLine number (reading sheetKind input) ∷ linesOf (number + 1) (drop (reading sheetKind input .next) input)
+        → linesThen others number (readJoint sheetKind input)
+        ≡ readingLines number (reading sheetKind input) ++ linesOf (number + 1) (drop (reading sheetKind input .next) input)
     go true e =
         let taken = read-taken sheetKind input (eqb-true (reading sheetKind input .refusal) 0 e) in
         let joint = reading sheetKind input .joint in
         let left = restOf sheetKind input in
         let shorter = joint-shorter sheetKind input joint left taken in
-        ap (lineThen others number) taken
+        ap (linesThen others number) taken
         ∙ rw (next-left sheetKind input, e)
-        (ap (λ (lines : List Line). jointLine number joint ∷ lines)
+        (ap (λ (lines : List Line). jointLines number joint ++ lines)
         (lines-same (length bytes) (length left) (number + 1) left (omega arith) (omega arith)))
     go false e =
         let turned = read-refused sheetKind input (eqb-false (reading sheetKind input .refusal) 0 e) in
         let none : drop (reading sheetKind input .next) input ≡ [] = next-left sheetKind input ∙ ap leftOf turned in
-        ap (lineThen others number) turned ∙ rw (none, e)
+        ap (linesThen others number) turned ∙ rw (none, e)
 
 -- a place after what was read
 pub next-positive : (bytes : List ℕ) → 0 < length bytes → 0 < reading sheetKind bytes .next
@@ -81,15 +81,15 @@ next-positive bytes some = go (readJoint sheetKind bytes) refl
     go (got joint left) e = let shorter = joint-shorter sheetKind bytes joint left e in omega arith
     go (refused r) e = some
 
--- ---- the line of what was read, case by case
+-- ---- the lines of what was read, case by case
 
 module _ (number : ℕ) (answer : Reading) where
-  pub reading-joint : answer .refusal ≡ 0 → jointLine number (answer .joint) ≡ readingLine number answer
-  unfolding readingLine
+  pub reading-joint : answer .refusal ≡ 0 → jointLines number (answer .joint) ≡ readingLines number answer
+  unfolding readingLines
   reading-joint none = rw (eq-eqb (answer .refusal) 0 none)
 
-  pub reading-refused : (answer .refusal ≡ 0 → ⊥) → refusalLine number (answer .refusal ∷ []) ≡ readingLine number answer
-  unfolding readingLine
+  pub reading-refused : (answer .refusal ≡ 0 → ⊥) → refusalLine number (answer .refusal ∷ []) ∷ [] ≡ readingLines number answer
+  unfolding readingLines
   reading-refused some = rw (ne-eqb (answer .refusal) 0 some)
 
 -- ---- the sheet, case by case

@@ -7,10 +7,10 @@ use lib.Dec.{leb, eqb}
 use lib.ListN.{length}
 use Rattle.buffers.specs.Put.{atFront}
 use Rattle.jointfile.specs.declared.Reading.{Reading}
-use Rattle.jointfile.specs.Answers.{leastFile}
-use Rattle.line.specs.Line.{refusalLine}
+use Rattle.jointfile.specs.Answers.{leastTwoFaced}
+use Rattle.line.specs.Line.{Line, refusalLine}
 use Rattle.line.specs.Longest.{mostLine}
-use Rattle.printer.specs.Sheet.{Line, mostInput, jointLine}
+use Rattle.printer.specs.Sheet.{mostInput, jointLines}
 use Rattle.printer.specs.declared.Printed.{Printed}
 use Rattle.printer.specs.declared.Printed.the-variants.{Length, NoRoom}
 
@@ -28,15 +28,19 @@ abbrev pub printedMeaning : Printed → List ℕ → Printing
 printedMeaning (Length size) buffer = whole size buffer
 printedMeaning NoRoom buffer = noRoom buffer
 
--- No sheet of so many bytes is longer: a line for each shortest file, and one for what is left.
+-- No line takes fewer bytes of input, but that of what is left: two lines take the shortest file of two faces.
+abbrev pub leastPerLine : ℕ
+leastPerLine = leastTwoFaced / 2
+
+-- No sheet of so many bytes is longer: a line for each so many bytes, and one for what is left.
 abbrev pub mostPrinted : (count : ℕ) → ℕ
-mostPrinted count = (count + (leastFile - 1)) / leastFile * mostLine
+mostPrinted count = (count + (leastPerLine - 1)) / leastPerLine * mostLine
 
 -- No sheet is longer.
 abbrev pub mostSheet : ℕ
 mostSheet = mostPrinted mostInput
 
--- the line of a joint by `read`'s answer
-unfoldable pub readingLine : (number : ℕ) → Reading → Line
-readingLine number reading =
-    cond (eqb (reading .refusal) 0) (jointLine number (reading .joint)) (refusalLine number (reading .refusal ∷ []))
+-- the lines of a joint by `read`'s answer
+unfoldable pub readingLines : (number : ℕ) → Reading → List Line
+readingLines number reading =
+    cond (eqb (reading .refusal) 0) (jointLines number (reading .joint)) (refusalLine number (reading .refusal ∷ []) ∷ [])

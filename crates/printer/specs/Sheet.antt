@@ -4,6 +4,7 @@ use mathlib.Core.List.{List, [], _∷_, _++_}
 use mathlib.Core.Bool.{cond}
 use lib.Dec.{ltb}
 use lib.ListN.{length}
+use Rattle.joint.specs.Faces.{firstRows}
 use Rattle.joint.specs.declared.Joint.{Joint}
 use Rattle.numbers.specs.Parse.{Parse, got, refused}
 use Rattle.jointfile.specs.File.{readJoint}
@@ -11,32 +12,29 @@ use Rattle.jointfile.specs.declared.FileKind.{FileKind}
 use Rattle.jointfile.specs.declared.FileKind.the-variants.{New}
 use Rattle.items.specs.Digits.{decimal}
 use Rattle.items.specs.Items.{letter}
-use Rattle.line.specs.Line.{lineOf, refusalLine, outcomeLine}
+use Rattle.line.specs.Line.{Line, lineOf, refusalLine, outcomeLines, concatenated}
 use Rattle.work.specs.Work.{worked}
-
-abbrev pub Line : Type 0
-Line = List ℕ
 
 -- rule 9.7: it reads files of the new kind
 abbrev pub sheetKind : FileKind
 sheetKind = New
 
--- what the sheet prints of a joint that was read
-abbrev pub jointLine : (number : ℕ) → Joint → Line
-jointLine number joint = outcomeLine number (joint .face .rows) (worked joint)
+-- what the sheet prints of a joint that was read: rows are shown without the mark of a second face
+abbrev pub jointLines : (number : ℕ) → Joint → List Line
+jointLines number joint = outcomeLines number (firstRows (joint .face .rows)) (joint .other .rows) (worked joint)
 
--- rules 12.3 and 12.4: the line of a joint that was read with those of the bytes left, or the line of one that wasn't, which is the last
-abbrev pub lineThen : (others : List ℕ → List Line) (number : ℕ) → Parse Joint → List Line
-lineThen others number (got joint left) = jointLine number joint ∷ others left
-lineThen others number (refused r) = refusalLine number (r ∷ []) ∷ []
+-- rules 12.3 and 12.4: the lines of a joint that was read with those of the bytes left, or the line of one that wasn't, which is the last
+abbrev pub linesThen : (others : List ℕ → List Line) (number : ℕ) → Parse Joint → List Line
+linesThen others number (got joint left) = jointLines number joint ++ others left
+linesThen others number (refused r) = refusalLine number (r ∷ []) ∷ []
 
--- The lines of joint files end to end, the first of them joint `number`; at most so many. No input has none.
+-- The lines of joint files end to end, the first of them joint `number`; of at most so many joints. No input has none.
 unfoldable pub linesWithin : (most number : ℕ) (bytes : List ℕ) → List Line
 linesWithin zero number bytes = []
 linesWithin (suc most) number [] = []
-linesWithin (suc most) number (byte ∷ bytes) = lineThen (linesWithin most (number + 1)) number (readJoint sheetKind (byte ∷ bytes))
+linesWithin (suc most) number (byte ∷ bytes) = linesThen (linesWithin most (number + 1)) number (readJoint sheetKind (byte ∷ bytes))
 
--- All of them: no file is empty, so there are no more lines than bytes.
+-- All of them: no file is empty, so there are no more joints than bytes.
 abbrev pub linesOf : (number : ℕ) (bytes : List ℕ) → List Line
 linesOf number bytes = linesWithin (length bytes) number bytes
 
@@ -51,11 +49,6 @@ mostInput = 65536
 -- rules 12.1 and 12.5: `R 4` alone where the input is longer than that; else joints count from 1
 unfoldable pub sheetLines : (bytes : List ℕ) → List Line
 sheetLines bytes = cond (ltb mostInput (length bytes)) (overLong ∷ []) (linesOf 1 bytes)
-
--- lines one after another
-unfoldable pub concatenated : List Line → List ℕ
-concatenated [] = []
-concatenated (line ∷ lines) = line ++ concatenated lines
 
 -- The sheet's bytes.
 abbrev pub sheetOf : (bytes : List ℕ) → List ℕ

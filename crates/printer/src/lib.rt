@@ -1,8 +1,9 @@
 // The sheet (rules 12): joint files end to end in, a line for each out. Each joint is read once, worked once and put
 // straight into the caller's buffer; the input is walked by the place after each joint. Only where the output may be too short are the
 // lines measured first, since such an output stays as it was.
+use joint::first_rows;
 use jointfile::FileKind;
-use jointfile::LEAST_FILE;
+use jointfile::LEAST_TWO_FACED;
 use jointfile::Reading;
 use jointfile::read;
 use line::MOST_LINE;
@@ -17,8 +18,9 @@ ghost use mathlib.Core.List.{[], _∷_};
 ghost use lib.Dec.{leb};
 ghost use lib.ListN.{length};
 ghost use Rattle.buffers.specs.Put.{Put};
-ghost use Rattle.printer.specs.Sheet.{mostInput, linesOf, overLong, concatenated, sheetOf};
-ghost use Rattle.printer.specs.Answers.{printing, printedMeaning, mostPrinted, readingLine};
+ghost use Rattle.line.specs.Line.{concatenated};
+ghost use Rattle.printer.specs.Sheet.{mostInput, linesOf, overLong, sheetOf};
+ghost use Rattle.printer.specs.Answers.{printing, printedMeaning, mostPrinted, readingLines};
 
 // Joints count from 1.
 const FIRST: u64 = 1;
@@ -26,8 +28,11 @@ const FIRST: u64 = 1;
 // An input of more bytes is refused by 4.
 pub const MOST_INPUT: usize = 65536;
 
+// No line takes fewer bytes of input, but that of what is left: two lines take the shortest file of two faces.
+const LEAST_PER_LINE: usize = LEAST_TWO_FACED / 2;
+
 // No sheet is longer.
-pub const MOST_SHEET: usize = (MOST_INPUT + (LEAST_FILE - 1)) / LEAST_FILE * MOST_LINE;
+pub const MOST_SHEET: usize = (MOST_INPUT + (LEAST_PER_LINE - 1)) / LEAST_PER_LINE * MOST_LINE;
 
 // What printing answers: the count of bytes at the buffer's front, or that there is no room for all lines.
 pub enum Printed {
@@ -82,12 +87,12 @@ fn has_room(input: &[u8], room: usize) -> bool
     lines_size(input) <= room
 }
 
-// No sheet of so many bytes is longer: a line for each shortest file, and one for what is left.
+// No sheet of so many bytes is longer: a line for each so many bytes, and one for what is left.
 fn most_printed(count: usize) -> usize
     requires { ⌜ count ≤ mostInput ⌝ }
     ensures { λ r. ⌜ r ≡ mostPrinted count ⌝ }
 {
-    (count + (LEAST_FILE - 1)) / LEAST_FILE * MOST_LINE
+    (count + (LEAST_PER_LINE - 1)) / LEAST_PER_LINE * MOST_LINE
 }
 
 // The size of all lines. The bound keeps the joints' count in range, here and in `put_joints`.
@@ -100,7 +105,7 @@ fn lines_size(input: &[u8]) -> usize
     let mut size: usize = 0;
     while from < input.len() {
         let reading = read(&input[from..], FileKind::New);
-        size += line_size(number, reading);
+        size += reading_size(number, reading);
         from += reading.next;
         number += 1;
     }
@@ -117,32 +122,34 @@ fn put_joints(input: &[u8], output: &mut [u8]) -> usize
     let mut at = 0;
     while from < input.len() {
         let reading = read(&input[from..], FileKind::New);
-        at = put_line(output, at, number, reading);
+        at = put_reading(output, at, number, reading);
         from += reading.next;
         number += 1;
     }
     at
 }
 
-// The size of the line of what was read.
-fn line_size(number: u64, reading: Reading) -> usize
-    ensures { λ r. ⌜ r ≡ length (readingLine number reading) ⌝ }
+// The size of the lines of what was read.
+fn reading_size(number: u64, reading: Reading) -> usize
+    ensures { λ r. ⌜ r ≡ length (concatenated (readingLines number reading)) ⌝ }
 {
     if reading.refusal == 0 {
         let joint = reading.joint;
-        return outcome_size(number, joint.face.rows, work(joint));
+        let rows = first_rows(joint.face.rows);
+        return outcome_size(number, rows, joint.other.rows, work(joint));
     }
     read_refusal_size(number, reading.refusal)
 }
 
-// Puts that line, and answers the place after it.
-fn put_line(output: &mut [u8], at: usize, number: u64, reading: Reading) -> usize
-    requires { ⌜ at + length (readingLine number reading) ≤ length (now output) ⌝ }
-    ensures { λ r. ⌜ Put (now (output .entry)) at (readingLine number reading) (now (output .exit)) r ⌝ }
+// Puts those lines, and answers the place after them. Rows are shown without the mark of a second face.
+fn put_reading(output: &mut [u8], at: usize, number: u64, reading: Reading) -> usize
+    requires { ⌜ at + length (concatenated (readingLines number reading)) ≤ length (now output) ⌝ }
+    ensures { λ r. ⌜ Put (now (output .entry)) at (concatenated (readingLines number reading)) (now (output .exit)) r ⌝ }
 {
     if reading.refusal == 0 {
         let joint = reading.joint;
-        return put_outcome(output, at, number, joint.face.rows, work(joint));
+        let rows = first_rows(joint.face.rows);
+        return put_outcome(output, at, number, rows, joint.other.rows, work(joint));
     }
     put_read_refusal(output, at, number, reading.refusal)
 }

@@ -11,8 +11,10 @@ use Rattle.joint.specs.declared.Face.{Face}
 use Rattle.joint.specs.declared.Joint.{Joint}
 use Rattle.joint.proofs.Faces.{rows-as-stored}
 use Rattle.connection.specs.Connection.{refusedOutcome, workedConnection}
+use Rattle.connection.proofs.Answers.{panel-not-asked}
 use Rattle.outcome.specs.declared.FaceResult.{FaceResult}
 use Rattle.outcome.specs.declared.Outcome.{Outcome}
+use Rattle.outcome.specs.declared.PanelVerdict.the-variants.{NotAsked}
 use Rattle.work.specs.Work.{ifTaken, bothTaken, workedSecond, workedFaces, worked}
 
 -- ---- a face that may be refused
@@ -59,6 +61,11 @@ module _ (joint : Joint) where
   pub of-one : twoFaced (joint .face .rows) ≡ false → workedConnection true (joint .column) (joint .bolts) (joint .face) ≡ worked joint
   unfolding worked
   of-one alone = ap (workedConnection true (joint .column) (joint .bolts)) (first-alone (joint .face) alone) ∙ (rw alone)
+
+  -- and then the panel isn't asked
+  pub panel-alone : twoFaced (joint .face .rows) ≡ false → worked joint .panel ≡ NotAsked
+  panel-alone alone =
+      ap (λ (outcome : Outcome). outcome .panel) (sym (of-one alone)) ∙ panel-not-asked true (joint .column) (joint .bolts) (joint .face)
 
 -- field 1 doesn't say both
 pub not-both : {test : Bool} → test ≡ true → test ≡ false → ⊥

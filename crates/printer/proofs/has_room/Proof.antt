@@ -6,7 +6,8 @@ use borrow.Author.Tests.{le-leb}
 use denote.Ref.{now}
 use lib.Dec.{leb}
 use lib.ListN.{length}
-use Rattle.printer.specs.Sheet.{linesOf, concatenated}
+use Rattle.line.specs.Line.{concatenated}
+use Rattle.printer.specs.Sheet.{linesOf}
 use Rattle.printer.proofs.Sizes.{lines-size}
 use borrow.Author.Needs.{needs}
 use Rattle.printer.proofs.has_room.Statement.{statement}

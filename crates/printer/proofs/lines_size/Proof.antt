@@ -53,10 +53,10 @@ read-here c =
 on : (c : tie.After-struct-known Inv-loop μ-loop)
     → let at-loop = head (was-read c) in
     WalkHead (lent at-loop) (at-loop .loop .from + was-read c .read .result .next) (at-loop .loop .number + 1)
-    (at-loop .loop .size + c .before .line-size .result)
+    (at-loop .loop .size + c .before .reading-size .result)
 on c =
     let read = was-read c in
-    walk-on (head read .loop .inv) (turn read .loop-test .taken) (read-here read) (c .before .line-size .ensures)
+    walk-on (head read .loop .inv) (turn read .loop-test .taken) (read-here read) (c .before .reading-size .ensures)
 
 onward : (c : tie.After-struct-known Inv-loop μ-loop) → 0 < was-read c .read .result .next
 onward c =
@@ -80,8 +80,8 @@ part-read-end c = search needs
 read-requires : tie.Need-read-requires Inv-loop μ-loop
 read-requires c κs = search needs
 
-line-size-requires : tie.Need-line-size-requires Inv-loop μ-loop
-line-size-requires c κs = search needs
+reading-size-requires : tie.Need-reading-size-requires Inv-loop μ-loop
+reading-size-requires c κs = search needs
 
 add-size : tie.Need-add-size Inv-loop μ-loop
 add-size c =
@@ -89,7 +89,7 @@ add-size c =
     let at-loop = head read in
     omega (
       arith,
-      c .line-size .ensures,
+      c .reading-size .ensures,
       walk-size (at-loop .loop .inv) (turn read .loop-test .taken) (read-here read),
       lines-size (lent at-loop) (lent-bytes at-loop),
       start at-loop .pre,
@@ -121,7 +121,7 @@ lines-size-spec =
     part-read-start
     part-read-end
     read-requires
-    line-size-requires
+    reading-size-requires
     add-size
     add-from
     add-number

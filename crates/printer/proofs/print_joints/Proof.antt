@@ -5,7 +5,8 @@ use borrow.Author.Tests.{leb-true}
 use denote.Ref.{now}
 use lib.Dec.{leb}
 use lib.ListN.{length}
-use Rattle.printer.specs.Sheet.{linesOf, concatenated}
+use Rattle.line.specs.Line.{concatenated}
+use Rattle.printer.specs.Sheet.{linesOf}
 use Rattle.printer.proofs.Prints.{printed-short, printed-whole}
 use borrow.Author.Needs.{needs}
 use Rattle.printer.proofs.print_joints.Statement.{statement}

@@ -34,10 +34,10 @@ turn c = c .before .before
 abbrev head : tie.After-read Inv-loop μ-loop → tie.At-loop Inv-loop μ-loop
 head c = turn c .before
 
-abbrev was-read : tie.After-put-line Inv-loop μ-loop → tie.After-read Inv-loop μ-loop
+abbrev was-read : tie.After-put-reading Inv-loop μ-loop → tie.After-read Inv-loop μ-loop
 was-read c = c .before .before
 
-abbrev was-put : tie.After-struct-known Inv-loop μ-loop → tie.After-put-line Inv-loop μ-loop
+abbrev was-put : tie.After-struct-known Inv-loop μ-loop → tie.After-put-reading Inv-loop μ-loop
 was-put c = c .before .before .before
 
 -- ---- what was read and put
@@ -48,15 +48,15 @@ read-here c =
     let from = head c .loop .from in
     c .read .ensures ∙ ap (reading sheetKind) (take-all (length input - from) (drop from input) (omega (arith, length-drop from input)))
 
-on : (c : tie.After-put-line Inv-loop μ-loop)
+on : (c : tie.After-put-reading Inv-loop μ-loop)
     → let at-loop = head (was-read c) in
-    PutHead (lent at-loop) (now (start at-loop .args .output)) (c .put-line .last .0)
-    (at-loop .loop .from + was-read c .read .result .next) (at-loop .loop .number + 1) (c .put-line .result)
+    PutHead (lent at-loop) (now (start at-loop .args .output)) (c .put-reading .last .0)
+    (at-loop .loop .from + was-read c .read .result .next) (at-loop .loop .number + 1) (c .put-reading .result)
 on c =
     let read = was-read c in
-    put-on (head read .loop .inv) (turn read .loop-test .taken) (read-here read) (c .put-line .ensures)
+    put-on (head read .loop .inv) (turn read .loop-test .taken) (read-here read) (c .put-reading .ensures)
 
-onward : (c : tie.After-put-line Inv-loop μ-loop) → 0 < was-read c .read .result .next
+onward : (c : tie.After-put-reading Inv-loop μ-loop) → 0 < was-read c .read .result .next
 onward c =
     let read = was-read c in
     walk-onward (head read .loop .inv .walk) (turn read .loop-test .taken) (read-here read)
@@ -78,8 +78,8 @@ part-read-end c = search needs
 read-requires : tie.Need-read-requires Inv-loop μ-loop
 read-requires c κs = search needs
 
-put-line-requires : tie.Need-put-line-requires Inv-loop μ-loop
-put-line-requires c κs =
+put-reading-requires : tie.Need-put-reading-requires Inv-loop μ-loop
+put-reading-requires c κs =
     let read = c .before in
     put-room (head read .loop .inv) (turn read .loop-test .taken) (read-here read) (start (head read) .pre .1)
 
@@ -118,7 +118,7 @@ put-joints-spec =
     part-read-start
     part-read-end
     read-requires
-    put-line-requires
+    put-reading-requires
     add-from
     add-number
     loop-less

@@ -2,7 +2,7 @@
 use mathlib.Core.Path.{sym, ap, _∙_}
 use mathlib.Core.List.{List}
 use denote.Ref.{now}
-use Rattle.printer.specs.Sheet.{Line, concatenated}
+use Rattle.line.specs.Line.{Line, concatenated}
 use Rattle.printer.specs.Answers.{printing}
 use Rattle.printer.proofs.Walk.{sheet-over-long, sheet-joints}
 use borrow.Author.Needs.{needs}
