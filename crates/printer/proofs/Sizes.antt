@@ -46,7 +46,8 @@ joint-lines number bytes joint left took = go (twoFaced (joint .face .rows)) ref
         → length left + leastPerLine * length (jointLines number joint) ≤ length bytes
     go true both = omega (arith, few, two (isAsked (worked joint .panel)), two-faced-size bytes joint left took both)
     go false alone =
-        let one : cond (isAsked (worked joint .panel)) 2 1 ≡ 1 = ap (λ (panel : PanelVerdict). cond (isAsked panel) 2 1) (panel-alone joint alone) in
+        let most : PanelVerdict → ℕ = λ panel. cond (isAsked panel) 2 1 in
+        let one = ap most (panel-alone joint alone) in
         omega (arith, few, one, file-size bytes joint left took)
 
 lines-few : (most number : ℕ) (bytes : List ℕ) → Bytes bytes
