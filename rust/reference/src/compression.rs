@@ -1,11 +1,24 @@
-//! The compression side: four checks, the first least of which governs.
+//! The compression side: four checks, the first least of which governs. Between two faces panel shear is none of them: it is held to
+//! what the faces differ by.
 
 use crate::joint::{Column, Face};
 use crate::outcome::Check;
-use crate::strength::{square, SteelStrengths};
+use crate::strength::{column_strength, square, SteelStrengths};
 
-/// The governing check with its force in newtons.
-pub fn governing(column: &Column, face: &Face, steel: &SteelStrengths) -> (Check, u64) {
+/// On how many faces of the column there is a beam.
+#[derive(Clone, Copy, Debug, PartialEq, Eq)]
+pub enum Faces {
+    One,
+    Two,
+}
+
+/// The governing check of a face with its force in newtons.
+pub fn governing(
+    column: &Column,
+    face: &Face,
+    steel: &SteelStrengths,
+    faces: Faces,
+) -> (Check, u64) {
     let beam = &face.beam;
     let bearing_length = u64::from(
         beam.flange
@@ -18,19 +31,29 @@ pub fn governing(column: &Column, face: &Face, steel: &SteelStrengths) -> (Check
     let bearing = bearing_length * web * steel.column / 100;
     let far = web_buckling(bearing_length, column.clear, column.web, steel.column);
     let buckling = reduced_near_end(far, column.end_distance, column.clear);
-    let panel = 3 * steel.column * web * u64::from(column.depth) / 500;
-
     let mut least = (Check::Flange, flange);
-    for other in [
-        (Check::Bearing, bearing),
-        (Check::Buckling, buckling),
-        (Check::Panel, panel),
-    ] {
-        if other.1 < least.1 {
-            least = other;
+    let mut count = |check: Check, force: u64| {
+        if force < least.1 {
+            least = (check, force);
         }
+    };
+    count(Check::Bearing, bearing);
+    count(Check::Buckling, buckling);
+    if faces == Faces::One {
+        count(Check::Panel, panel_shear(column));
     }
     least
+}
+
+/// Of the column's web, in newtons.
+pub fn panel_shear(column: &Column) -> u64 {
+    3 * column_strength(column) * u64::from(column.web) * u64::from(column.depth) / 500
+}
+
+/// Whether panel shear takes what the governing totals of the two faces, each the sum of its forces plus its N, differ by.
+pub fn panel_passes(panel_shear: u64, totals: [i64; 2]) -> bool {
+    let [first, second] = totals;
+    first.abs_diff(second) <= panel_shear
 }
 
 /// The greatest w with 16 dc w² at most 275 b yc tc⁴, where no column end is near.
@@ -76,6 +99,17 @@ mod tests {
             assert_eq!(reduced_near_end(700_000, least_far, clear), 700_000);
             assert!(reduced_near_end(700_000, least_far - 1, clear) < 700_000);
         }
+    }
+
+    #[test]
+    fn the_panel_takes_the_difference_either_way() {
+        for (first, second) in [(1_500, 400), (-400, -1_500), (700, -400), (1_100, 0)] {
+            assert!(panel_passes(1_100, [first, second]));
+            assert!(panel_passes(1_100, [second, first]));
+            assert!(!panel_passes(1_099, [first, second]));
+            assert!(!panel_passes(1_099, [second, first]));
+        }
+        assert!(panel_passes(0, [-3, -3]));
     }
 
     #[test]

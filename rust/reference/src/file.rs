@@ -1,12 +1,17 @@
 //! Joint files: numbers in groups of seven bits, lowest first, the top bit set when more follow.
 
-use crate::joint::{Joint, FIELDS, HEAD, ROWS};
+use crate::joint::{
+    Face, Joint, COUNTS, FIELDS, HEAD, ONE_FACED_FIELDS, OWN, RAISED_COUNTS, ROWS, SECOND_FACE,
+};
 
-/// A file of eight rows whose numbers but the row count take five bytes each.
-pub const LONGEST_FILE: usize = 1 + 37 * 5;
+/// A file of one face, of eight rows, whose numbers but the row count take five bytes each.
+const LONGEST_ONE_FACED: usize = 1 + (ONE_FACED_FIELDS - 1) * 5;
+/// The same of two faces.
+pub const LONGEST_FILE: usize = 2 + (FIELDS - 2) * 5;
 
-/// Where the axial force stands.
+/// Where the axial force stands among the fields before the levers, and among a second face's own.
 const AXIAL: usize = 26;
+const OWN_AXIAL: usize = 17;
 /// Where the distance to the column end stands: last before the levers.
 const END_DISTANCE: usize = HEAD - 1;
 /// What a file of the old kind gives for that distance.
@@ -20,7 +25,7 @@ pub enum FileKind {
 }
 
 impl FileKind {
-    /// How many fields before the levers the file has.
+    /// How many fields before the first face's levers the file has.
     fn head(self) -> usize {
         match self {
             FileKind::Old => END_DISTANCE,
@@ -45,22 +50,53 @@ pub enum WriteRefusal {
 
 /// The joint that the bytes begin with, and the bytes after it.
 pub fn read(bytes: &[u8], kind: FileKind) -> Result<(Joint, &[u8]), ReadRefusal> {
-    let mut fields = [0; FIELDS];
-    let (rows, mut rest) = read_number(bytes)?;
-    if !(1..=ROWS as u32).contains(&rows) {
-        return Err(ReadRefusal::RowCount);
+    let mut fields = [0; ONE_FACED_FIELDS];
+    fields[END_DISTANCE] = FAR_FROM_THE_END;
+    let (head, levers) = fields.split_at_mut(HEAD);
+    let rest = read_face(bytes, rows_of_first, &mut head[..kind.head()], levers)?;
+    head[AXIAL] = signed(head[AXIAL]) as u32;
+    let mut joint = Joint::one_faced(&fields);
+    if !joint.is_two_faced() {
+        return Ok((joint, rest));
     }
-    fields[0] = rows;
-    for field in &mut fields[1..kind.head() + rows as usize] {
-        (*field, rest) = read_number(rest)?;
+    let (other, rest) = read_second_face(rest)?;
+    joint.other = other;
+    Ok((joint, rest))
+}
+
+fn read_second_face(bytes: &[u8]) -> Result<(Face, &[u8]), ReadRefusal> {
+    let mut fields = [0; OWN + ROWS];
+    let (own, levers) = fields.split_at_mut(OWN);
+    let rest = read_face(bytes, rows_of_second, own, levers)?;
+    own[OWN_AXIAL] = signed(own[OWN_AXIAL]) as u32;
+    Ok((Face::from_own_fields(&fields), rest))
+}
+
+/// A face's numbers: a row count, judged before the next is looked at, all others before the levers, and a lever for each row. Answers
+/// the bytes after them.
+fn read_face<'a>(
+    bytes: &'a [u8],
+    rows_of: impl Fn(u32) -> Option<usize>,
+    numbers: &mut [u32],
+    levers: &mut [u32],
+) -> Result<&'a [u8], ReadRefusal> {
+    let (count, rest) = read_number(bytes)?;
+    let rows = rows_of(count).ok_or(ReadRefusal::RowCount)?;
+    numbers[0] = count;
+    let rest = read_numbers(rest, &mut numbers[1..])?;
+    read_numbers(rest, &mut levers[..rows])
+}
+
+/// Field 1 of the first face, whether or not a second follows.
+fn rows_of_first(count: u32) -> Option<usize> {
+    if RAISED_COUNTS.contains(&count) {
+        return Some((count - SECOND_FACE) as usize);
     }
-    if kind == FileKind::Old {
-        // the levers stand one place early
-        fields[END_DISTANCE..].rotate_right(1);
-        fields[END_DISTANCE] = FAR_FROM_THE_END;
-    }
-    fields[AXIAL] = signed(fields[AXIAL]) as u32;
-    Ok((Joint::from_fields(&fields), rest))
+    rows_of_second(count)
+}
+
+fn rows_of_second(count: u32) -> Option<usize> {
+    COUNTS.contains(&count).then_some(count as usize)
 }
 
 /// The bytes after the first joint; none when it can't be read.
@@ -71,29 +107,58 @@ pub fn rest(bytes: &[u8], kind: FileKind) -> &[u8] {
     }
 }
 
-/// Puts the joint's file, of the new kind, at the front of the buffer and answers its length.
+/// Puts the joint's file, of the new kind, at the front of the buffer and answers its length. Each refusal is tried on both faces before
+/// the next.
 pub fn write(joint: &Joint, buffer: &mut [u8]) -> Result<usize, WriteRefusal> {
-    let face = &joint.face;
-    let rows = face.row_count();
-    if !(1..=ROWS).contains(&rows) {
-        return Err(WriteRefusal::RowCount);
-    }
-    if face.levers[rows..].iter().any(|&lever| lever != 0) {
+    let (rows, other_rows) = row_counts(joint).ok_or(WriteRefusal::RowCount)?;
+    let has_spare = |face: &Face, rows: usize| face.levers[rows..].iter().any(|&lever| lever != 0);
+    if has_spare(&joint.face, rows) || other_rows.is_some_and(|rows| has_spare(&joint.other, rows))
+    {
         return Err(WriteRefusal::SpareLever);
     }
-    let mut fields = joint.to_fields();
-    fields[AXIAL] = stored(face.loads.axial);
-    let numbers = &fields[..HEAD + rows];
-    if let Some(front) = buffer.first_chunk_mut() {
-        return Ok(put_numbers(front, numbers));
+    let longest = other_rows.map_or(LONGEST_ONE_FACED, |_| LONGEST_FILE);
+    if let Some(front) = buffer.get_mut(..longest) {
+        return Ok(put_joint(front, joint, rows, other_rows));
     }
     let mut file = [0; LONGEST_FILE];
-    let length = put_numbers(&mut file, numbers);
+    let length = put_joint(&mut file, joint, rows, other_rows);
     let Some(front) = buffer.get_mut(..length) else {
         return Err(WriteRefusal::ShortBuffer);
     };
     front.copy_from_slice(&file[..length]);
     Ok(length)
+}
+
+/// Rows of the first face, and of the second where there is one.
+fn row_counts(joint: &Joint) -> Option<(usize, Option<usize>)> {
+    let rows = rows_of_first(joint.face.rows)?;
+    if !joint.is_two_faced() {
+        return Some((rows, None));
+    }
+    Some((rows, Some(rows_of_second(joint.other.rows)?)))
+}
+
+/// The count of bytes put.
+fn put_joint(file: &mut [u8], joint: &Joint, rows: usize, other_rows: Option<usize>) -> usize {
+    let mut head = joint.head();
+    head[AXIAL] = stored(joint.face.loads.axial);
+    let at = put_numbers(file, 0, &head);
+    let at = put_numbers(file, at, &joint.face.levers[..rows]);
+    let Some(other_rows) = other_rows else {
+        return at;
+    };
+    let mut own = joint.other.own_fields();
+    own[OWN_AXIAL] = stored(joint.other.loads.axial);
+    let at = put_numbers(file, at, &own);
+    put_numbers(file, at, &joint.other.levers[..other_rows])
+}
+
+fn read_numbers<'a>(bytes: &'a [u8], numbers: &mut [u32]) -> Result<&'a [u8], ReadRefusal> {
+    let mut rest = bytes;
+    for number in numbers {
+        (*number, rest) = read_number(rest)?;
+    }
+    Ok(rest)
 }
 
 /// A number is judged at its last byte, but a fifth byte above 15 there and then.
@@ -118,15 +183,15 @@ fn read_number(bytes: &[u8]) -> Result<(u32, &[u8]), ReadRefusal> {
     Ok((value, rest))
 }
 
-/// The count of bytes put.
-fn put_numbers(file: &mut [u8; LONGEST_FILE], numbers: &[u32]) -> usize {
+/// From `at` on; the place after them.
+fn put_numbers(file: &mut [u8], at: usize, numbers: &[u32]) -> usize {
     numbers
         .iter()
-        .fold(0, |at, &number| put_number(file, at, number))
+        .fold(at, |at, &number| put_number(file, at, number))
 }
 
 #[inline]
-fn put_number(file: &mut [u8; LONGEST_FILE], mut at: usize, mut value: u32) -> usize {
+fn put_number(file: &mut [u8], mut at: usize, mut value: u32) -> usize {
     while value > 0x7f {
         file[at] = value as u8 | 0x80;
         value >>= 7;

@@ -1,5 +1,5 @@
-//! Document 01, and the rule for joints near the column end, read in plain Rust. It was written from the paper, with the signatures of the
-//! proved calls and some of their bodies known.
+//! Document 01, and the rules for joints near the column end and for a beam on both faces, read in plain Rust. It was written from the
+//! papers, with the signatures of the proved calls and some of their bodies known.
 //! Rows count from 0 here, from 1 in the rules.
 
 mod compression;
@@ -15,8 +15,11 @@ mod verdict;
 mod work;
 
 pub use file::{read, rest, write, FileKind, ReadRefusal, WriteRefusal, LONGEST_FILE};
-pub use joint::{Beam, Bolts, Column, Face, Joint, Layout, Loads, Plate, Welds, FIELDS, ROWS};
-pub use outcome::{Check, FaceResult, Verdicts, WorkRefusal};
+pub use joint::{
+    Beam, Bolts, Column, Face, Joint, Layout, Loads, Plate, Welds, FIELDS, ONE_FACED_FIELDS, OWN,
+    ROWS, SECOND_FACE,
+};
+pub use outcome::{Check, FaceResult, JointResult, OtherResult, Trouble, Verdicts, WorkRefusal};
 pub use sharing::{allocate, AllocateRefusal, GROUPS};
 pub use sheet::{sheet, LONGEST_INPUT};
 pub use work::work;

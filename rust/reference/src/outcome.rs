@@ -42,8 +42,32 @@ pub struct FaceResult {
     pub verdicts: Verdicts,
 }
 
+/// What a joint comes to.
 #[derive(Clone, Copy, Debug, PartialEq, Eq)]
-pub enum WorkRefusal {
+pub struct JointResult {
+    pub face: FaceResult,
+    /// none of a joint with one face
+    pub other: Option<OtherResult>,
+}
+
+/// What the second face comes to, and the column's web panel between the two.
+#[derive(Clone, Copy, Debug, PartialEq, Eq)]
+pub struct OtherResult {
+    pub face: FaceResult,
+    pub panel_passes: bool,
+}
+
+/// Why a joint isn't worked.
+#[derive(Clone, Copy, Debug, PartialEq, Eq)]
+pub struct WorkRefusal {
+    pub trouble: Trouble,
+    /// 1 or 2 in a joint with two faces, else 0
+    pub face: u32,
+}
+
+/// Why a face isn't worked.
+#[derive(Clone, Copy, Debug, PartialEq, Eq)]
+pub enum Trouble {
     /// with the number of the first field out of range
     Field(u32),
     LeverOrder,
@@ -55,19 +79,20 @@ pub enum WorkRefusal {
 
 impl WorkRefusal {
     pub fn number(self) -> u32 {
-        match self {
-            WorkRefusal::Field(_) => 10,
-            WorkRefusal::LeverOrder => 11,
-            WorkRefusal::RowPlace => 12,
-            WorkRefusal::TooTight => 13,
-            WorkRefusal::TooThick => 14,
-            WorkRefusal::Compression => 15,
+        match self.trouble {
+            Trouble::Field(_) => 10,
+            Trouble::LeverOrder => 11,
+            Trouble::RowPlace => 12,
+            Trouble::TooTight => 13,
+            Trouble::TooThick => 14,
+            Trouble::Compression => 15,
         }
     }
 
+    /// 0 unless it is refusal 10.
     pub fn field(self) -> u32 {
-        match self {
-            WorkRefusal::Field(field) => field,
+        match self.trouble {
+            Trouble::Field(field) => field,
             _ => 0,
         }
     }

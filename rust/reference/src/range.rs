@@ -1,6 +1,6 @@
-//! Refusal 10: each field's range.
+//! Refusal 10: each field's range, of one face with what both share.
 
-use crate::joint::{Bolts, Column, Face, HEAD, ROWS};
+use crate::joint::{Bolts, Column, Face, COUNTS, HEAD};
 use std::ops::RangeInclusive;
 
 const FORCE: i32 = 10_000_000;
@@ -12,7 +12,8 @@ const WEB: RangeInclusive<u32> = 30..=400;
 const LEG: RangeInclusive<u32> = 30..=250;
 const LEVER: RangeInclusive<u32> = 1..=20000;
 
-/// The number, from 1, of the first field that is out of its range.
+/// The number, from 1, of the first field that is out of its range. Of a second face that is never a shared one: those were in range with
+/// the first.
 pub fn first_outside(column: &Column, bolts: &Bolts, face: &Face) -> Option<u32> {
     let head = fields_hold(column, bolts, face);
     if let Some(place) = head.iter().position(|&holds| !holds) {
@@ -31,7 +32,7 @@ pub fn first_outside(column: &Column, bolts: &Bolts, face: &Face) -> Option<u32>
 fn fields_hold(column: &Column, bolts: &Bolts, face: &Face) -> [bool; HEAD] {
     let within = |range: RangeInclusive<u32>, value: u32| range.contains(&value);
     [
-        within(1..=ROWS as u32, face.rows),
+        within(COUNTS, face.rows),
         within(0..=1, face.extended),
         matches!(bolts.class, 46 | 88 | 109),
         matches!(bolts.diameter, 12 | 16 | 20 | 24 | 30),

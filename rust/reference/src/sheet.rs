@@ -1,8 +1,8 @@
-//! The sheet: joint files of the new kind end to end in, a line for each out.
+//! The sheet: joint files of the new kind end to end in, a line for each face out.
 
 use crate::file::{read, FileKind};
-use crate::joint::Face;
-use crate::outcome::{FaceResult, WorkRefusal};
+use crate::joint::Joint;
+use crate::outcome::{FaceResult, JointResult, WorkRefusal};
 use crate::work::work;
 
 /// Bytes of the longest input that is taken.
@@ -20,57 +20,90 @@ pub fn sheet(input: &[u8], out: &mut Vec<u8>) {
         number += 1;
         match read(rest, FileKind::New) {
             Err(refusal) => {
-                refusal_line(number, refusal as u32, 0, out);
+                refusal_line(number, refusal as u32, 0, 0, out);
                 return;
             }
             Ok((joint, after)) => {
-                line(number, &joint.face, &work(&joint), out);
+                joint_lines(number, &joint, &work(&joint), out);
                 rest = after;
             }
         }
     }
 }
 
-fn line(number: u64, face: &Face, worked: &Result<FaceResult, WorkRefusal>, out: &mut Vec<u8>) {
+fn joint_lines(
+    number: u64,
+    joint: &Joint,
+    worked: &Result<JointResult, WorkRefusal>,
+    out: &mut Vec<u8>,
+) {
     match worked {
-        Ok(result) => result_line(number, face, result, out),
-        Err(refusal) => refusal_line(number, refusal.number(), refusal.field(), out),
+        Ok(result) => result_lines(number, joint, result, out),
+        Err(refusal) => refusal_line(number, refusal.number(), refusal.field(), refusal.face, out),
     }
 }
 
-fn result_line(number: u64, face: &Face, result: &FaceResult, out: &mut Vec<u8>) {
+/// A line, or of two faces a line for each, both with the panel's verdict.
+fn result_lines(number: u64, joint: &Joint, result: &JointResult, out: &mut Vec<u8>) {
+    let Some(other) = &result.other else {
+        return face_line(number, joint.face.rows, &result.face, None, out);
+    };
+    let panel = Some(other.panel_passes);
+    face_line(number, joint.first_of_two().rows, &result.face, panel, out);
+    face_line(number, joint.other.rows, &other.face, panel, out);
+}
+
+fn face_line(
+    number: u64,
+    rows: u32,
+    result: &FaceResult,
+    panel_passes: Option<bool>,
+    out: &mut Vec<u8>,
+) {
     decimal(number, out);
-    spaced(u64::from(face.rows), out);
-    for &force in &result.forces[..face.row_count()] {
+    spaced(u64::from(rows), out);
+    for &force in &result.forces[..rows as usize] {
         spaced(force, out);
     }
     spaced(result.sum, out);
     spaced(result.newton_metres, out);
     spaced(result.cap, out);
     let verdicts = &result.verdicts;
-    let pass = |passes: bool| if passes { b'P' } else { b'F' };
     out.extend_from_slice(&[
         b' ',
         result.check.letter(),
         b' ',
-        pass(verdicts.bending),
+        letter(verdicts.bending),
         b' ',
-        pass(verdicts.bolts),
+        letter(verdicts.bolts),
         b' ',
-        pass(verdicts.flange_weld),
+        letter(verdicts.flange_weld),
         b' ',
-        pass(verdicts.web_weld),
-        b'\n',
+        letter(verdicts.web_weld),
     ]);
+    if let Some(passes) = panel_passes {
+        out.extend_from_slice(&[b' ', letter(passes)]);
+    }
+    out.push(b'\n');
 }
 
-/// The field is 0 where none is told.
-fn refusal_line(number: u64, refusal: u32, field: u32, out: &mut Vec<u8>) {
+fn letter(passes: bool) -> u8 {
+    if passes {
+        b'P'
+    } else {
+        b'F'
+    }
+}
+
+/// Field and face are 0 where none is told.
+fn refusal_line(number: u64, refusal: u32, field: u32, face: u32, out: &mut Vec<u8>) {
     decimal(number, out);
     out.extend_from_slice(b" R");
     spaced(u64::from(refusal), out);
-    if field != 0 {
-        spaced(u64::from(field), out);
+    for told in [field, face] {
+        if told != 0 {
+            spaced(u64::from(told), out);
+        }
     }
     out.push(b'\n');
 }

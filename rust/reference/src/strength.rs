@@ -14,7 +14,7 @@ impl SteelStrengths {
     pub fn of(column: &Column, face: &Face) -> SteelStrengths {
         let Face { beam, plate, .. } = face;
         SteelStrengths {
-            column: steel(column.grade, column.flange),
+            column: column_strength(column),
             beam: steel(beam.grade, beam.flange),
             plate: steel(plate.grade, plate.thickness),
         }
@@ -46,6 +46,11 @@ impl BoltStrengths {
             ultimate,
         }
     }
+}
+
+/// In the rules for its web too.
+pub fn column_strength(column: &Column) -> u64 {
+    steel(column.grade, column.flange)
 }
 
 /// BS 5950-1:2000 Table 9; thickness in tenths of a millimetre, 500 at most.

@@ -1,53 +1,85 @@
 //! Work: one joint worked whole.
 
-use crate::compression::governing;
-use crate::joint::{Column, Face, Joint, ROWS};
-use crate::outcome::{FaceResult, WorkRefusal};
+use crate::compression::{governing, panel_passes, panel_shear, Faces};
+use crate::joint::{Bolts, Column, Face, Joint, ROWS};
+use crate::outcome::{FaceResult, JointResult, OtherResult, Trouble, WorkRefusal};
 use crate::range::first_outside;
 use crate::sharing::share;
 use crate::strength::{both_too_thick, BoltStrengths, SteelStrengths};
 use crate::tension::{group_limits, Distances};
 use crate::verdict::verdicts;
 
-pub fn work(joint: &Joint) -> Result<FaceResult, WorkRefusal> {
+pub fn work(joint: &Joint) -> Result<JointResult, WorkRefusal> {
     let Joint {
         column,
         bolts,
         face,
+        ..
     } = joint;
-    if let Some(field) = first_outside(column, bolts, face) {
-        return Err(WorkRefusal::Field(field));
+    if joint.is_two_faced() {
+        return work_two_faces(joint);
     }
-    work_face(column, &BoltStrengths::of(bolts), face)
+    match work_face(column, bolts, face, Faces::One) {
+        Ok(face) => Ok(JointResult { face, other: None }),
+        Err(trouble) => Err(WorkRefusal { trouble, face: 0 }),
+    }
 }
 
-/// One face, whose fields are in range.
+/// All of the first face's troubles are told before the second's.
+fn work_two_faces(joint: &Joint) -> Result<JointResult, WorkRefusal> {
+    let column = &joint.column;
+    let worked = |face: &Face, number: u32| {
+        work_face(column, &joint.bolts, face, Faces::Two).map_err(|trouble| WorkRefusal {
+            trouble,
+            face: number,
+        })
+    };
+    let first = worked(&joint.first_of_two(), 1)?;
+    let second = worked(&joint.other, 2)?;
+    let totals = [
+        governing_total(&first, &joint.face),
+        governing_total(&second, &joint.other),
+    ];
+    Ok(JointResult {
+        face: first,
+        other: Some(OtherResult {
+            face: second,
+            panel_passes: panel_passes(panel_shear(column), totals),
+        }),
+    })
+}
+
+/// Below 0 where the beam pulls by more than its rows take.
+fn governing_total(result: &FaceResult, face: &Face) -> i64 {
+    result.sum as i64 + i64::from(face.loads.axial)
+}
+
 fn work_face(
     column: &Column,
-    bolt: &BoltStrengths,
+    bolts: &Bolts,
     face: &Face,
-) -> Result<FaceResult, WorkRefusal> {
-    let rows = face.row_count();
-    let levers = &face.levers[..rows];
-    if levers.windows(2).any(|pair| pair[1] >= pair[0]) {
-        return Err(WorkRefusal::LeverOrder);
+    faces: Faces,
+) -> Result<FaceResult, Trouble> {
+    if let Some(field) = first_outside(column, bolts, face) {
+        return Err(Trouble::Field(field));
+    }
+    if !levers_fall(face) {
+        return Err(Trouble::LeverOrder);
     }
     if !rows_in_place(face) {
-        return Err(WorkRefusal::RowPlace);
+        return Err(Trouble::RowPlace);
     }
-    let distances = Distances::of(column, face).ok_or(WorkRefusal::TooTight)?;
+    let distances = Distances::of(column, face).ok_or(Trouble::TooTight)?;
+    let bolt = BoltStrengths::of(bolts);
     let steel = SteelStrengths::of(column, face);
-    if both_too_thick(column, &face.plate, &steel, bolt) {
-        return Err(WorkRefusal::TooThick);
+    if both_too_thick(column, &face.plate, &steel, &bolt) {
+        return Err(Trouble::TooThick);
     }
-    let (check, governing_force) = governing(column, face, &steel);
+    let (check, governing_force) = governing(column, face, &steel, faces);
     let cap = u64::try_from(governing_force as i64 - i64::from(face.loads.axial))
-        .map_err(|_| WorkRefusal::Compression)?;
+        .map_err(|_| Trouble::Compression)?;
 
-    let mut limits = group_limits(column, bolt, face, &steel, &distances);
-    // the cap is one more limit on all rows together
-    limits[rows - 1] = limits[rows - 1].min(cap);
-    let forces = share(rows, &limits);
+    let forces = row_forces(column, &bolt, face, &steel, &distances, cap);
     let moment = moment_of(&forces, &face.levers);
     Ok(FaceResult {
         forces,
@@ -56,8 +88,29 @@ fn work_face(
         cap,
         check,
         governing_force,
-        verdicts: verdicts(column, bolt, face, &steel, &forces, moment),
+        verdicts: verdicts(column, &bolt, face, &steel, &forces, moment),
     })
+}
+
+/// The cap is one more limit on all rows together.
+fn row_forces(
+    column: &Column,
+    bolt: &BoltStrengths,
+    face: &Face,
+    steel: &SteelStrengths,
+    distances: &Distances,
+    cap: u64,
+) -> [u64; ROWS] {
+    let rows = face.row_count();
+    let mut limits = group_limits(column, bolt, face, steel, distances);
+    limits[rows - 1] = limits[rows - 1].min(cap);
+    share(rows, &limits)
+}
+
+/// Refusal 11: each row's lever is below that of the row above it.
+fn levers_fall(face: &Face) -> bool {
+    let levers = &face.levers[..face.row_count()];
+    levers.windows(2).all(|pair| pair[1] < pair[0])
 }
 
 /// Refusal 12: an extended row 1 stands above the beam flange, every other row below it.

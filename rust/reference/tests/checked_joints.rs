@@ -1,7 +1,7 @@
 //! The checked joints A to C, H and I of document 01; D to G stand beside the functions they check.
 
 use reference::{
-    allocate, read, sheet, work, write, Check, FileKind, Joint, ReadRefusal, WorkRefusal,
+    allocate, read, sheet, work, write, Check, FileKind, Joint, ReadRefusal, Trouble, WorkRefusal,
     LONGEST_FILE,
 };
 
@@ -16,7 +16,7 @@ fn joint_i() -> Joint {
         1, 0, 88, 20, 275, 275, 275, 5283, 2087, 132, 96, 127, 4765, 3071, 1657, 118, 67, 2000,
         200, 900, 0, 600, 80, 60, 2000, 1, 0, 57000, 50000, 15000, 2400,
     ]);
-    Joint::from_fields(&fields)
+    Joint::one_faced(&fields)
 }
 
 fn file_of(joint: &Joint) -> Vec<u8> {
@@ -79,7 +79,7 @@ fn joint_h() {
 
 #[test]
 fn joint_i_is_worked() {
-    let result = work(&joint_i()).unwrap();
+    let result = work(&joint_i()).unwrap().face;
     assert_eq!(result.forces, [219_345, 0, 0, 0, 0, 0, 0, 0]);
     assert_eq!(
         (result.sum, result.newton_metres, result.cap),
@@ -102,13 +102,19 @@ fn joint_i_is_printed() {
 fn joint_i_at_its_governing_force() {
     let mut joint = joint_i();
     joint.face.loads.axial = 407_706;
-    let result = work(&joint).unwrap();
+    let result = work(&joint).unwrap().face;
     assert_eq!(
         (result.forces[0], result.cap, result.governing_force),
         (0, 0, 407_706)
     );
     joint.face.loads.axial = 407_707;
-    assert_eq!(work(&joint), Err(WorkRefusal::Compression));
+    assert_eq!(
+        work(&joint),
+        Err(WorkRefusal {
+            trouble: Trouble::Compression,
+            face: 0
+        })
+    );
 }
 
 /// Joint I has the web of joint F; it is governed by web buckling at any distance from the column end.
@@ -117,7 +123,7 @@ fn joint_i_near_the_column_end() {
     let governing = |end_distance| {
         let mut joint = joint_i();
         joint.column.end_distance = end_distance;
-        let result = work(&joint).unwrap();
+        let result = work(&joint).unwrap().face;
         assert_eq!(result.check, Check::Buckling);
         result.governing_force
     };

@@ -1,8 +1,8 @@
-//! Every refusal, at both ends of its condition.
+//! Every refusal, at both ends of its condition, in joints with one face.
 
 use reference::{
-    allocate, read, rest, sheet, work, write, AllocateRefusal, Face, FileKind, Joint, ReadRefusal,
-    WorkRefusal, WriteRefusal, LONGEST_FILE,
+    allocate, read, rest, sheet, write, AllocateRefusal, Face, FaceResult, FileKind, Joint,
+    ReadRefusal, Trouble, WriteRefusal, LONGEST_FILE,
 };
 
 const KINDS: [FileKind; 2] = [FileKind::Old, FileKind::New];
@@ -18,8 +18,22 @@ fn fields() -> [u32; 38] {
     fields
 }
 
+/// The joint worked; of a joint with one face neither answer tells of two.
+fn work(joint: &Joint) -> Result<FaceResult, Trouble> {
+    match reference::work(joint) {
+        Ok(result) => {
+            assert_eq!(result.other, None);
+            Ok(result.face)
+        }
+        Err(refusal) => {
+            assert_eq!(refusal.face, 0);
+            Err(refusal.trouble)
+        }
+    }
+}
+
 fn joint() -> Joint {
-    Joint::from_fields(&fields())
+    Joint::one_faced(&fields())
 }
 
 fn with(change: impl FnOnce(&mut Joint)) -> Joint {
@@ -47,7 +61,7 @@ fn extended(change: impl FnOnce(&mut Face)) -> Joint {
 fn with_field(number: usize, value: u32) -> Joint {
     let mut fields = fields();
     fields[number - 1] = value;
-    Joint::from_fields(&fields)
+    Joint::one_faced(&fields)
 }
 
 fn file_of(joint: &Joint) -> Vec<u8> {
@@ -108,6 +122,8 @@ fn read_3_the_row_count() {
         for bytes in [
             &[0][..],
             &[9],
+            &[16],
+            &[25],
             &[0xac, 0x02],
             &[0xff, 0xff, 0xff, 0xff, 0x0f],
         ] {
@@ -164,7 +180,9 @@ fn write_refuses_in_order_and_leaves_the_buffer() {
         refusal
     };
     assert_eq!(refused(with_field(1, 0), 200), WriteRefusal::RowCount);
-    assert_eq!(refused(with_field(1, 9), 0), WriteRefusal::RowCount);
+    for count in [9, 16, 25, u32::MAX] {
+        assert_eq!(refused(with_field(1, count), 0), WriteRefusal::RowCount);
+    }
     assert_eq!(refused(with_field(38, 1), 0), WriteRefusal::SpareLever);
     let length = file_of(&joint()).len();
     assert_eq!(refused(joint(), length - 1), WriteRefusal::ShortBuffer);
@@ -191,7 +209,10 @@ fn allocate_refuses_in_order() {
 
 /// The field that refusal 10 tells; 0 where another is told, or none.
 fn field_of(joint: &Joint) -> u32 {
-    work(joint).err().map_or(0, WorkRefusal::field)
+    match work(joint) {
+        Err(Trouble::Field(field)) => field,
+        _ => 0,
+    }
 }
 
 /// Each field at both ends of its range, and one past each.
@@ -237,6 +258,9 @@ fn work_10_other_fields() {
     for (number, value) in [
         (1, 0),
         (1, 9),
+        (1, 16),
+        (1, 25),
+        (1, 33),
         (2, 2),
         (3, 47),
         (4, 22),
@@ -261,7 +285,8 @@ fn work_10_other_fields() {
     for (edge, field) in [(149, 21), (150, 0), (2000, 0), (2001, 21), (0, 21)] {
         assert_eq!(field_of(&extended(|face| face.layout.edge = edge)), field);
     }
-    assert_eq!(work(&with_field(3, 47)).unwrap_err().number(), 10);
+    let refusal = reference::work(&with_field(3, 47)).unwrap_err();
+    assert_eq!((refusal.number(), refusal.field()), (10, 3));
 }
 
 /// Field 30 is told after field 29 and before the levers.
@@ -269,11 +294,11 @@ fn work_10_other_fields() {
 fn work_10_the_column_end_in_its_place() {
     let mut fields = fields();
     (fields[28], fields[29], fields[30]) = (10_000_001, 0, 0);
-    assert_eq!(field_of(&Joint::from_fields(&fields)), 29);
+    assert_eq!(field_of(&Joint::one_faced(&fields)), 29);
     fields[28] = 0;
-    assert_eq!(field_of(&Joint::from_fields(&fields)), 30);
+    assert_eq!(field_of(&Joint::one_faced(&fields)), 30);
     fields[29] = 15000;
-    assert_eq!(field_of(&Joint::from_fields(&fields)), 31);
+    assert_eq!(field_of(&Joint::one_faced(&fields)), 31);
 }
 
 #[test]
@@ -285,25 +310,25 @@ fn work_11_lever_order() {
         })
     };
     assert!(work(&second(2399)).is_ok());
-    assert_eq!(work(&second(2400)), Err(WorkRefusal::LeverOrder));
+    assert_eq!(work(&second(2400)), Err(Trouble::LeverOrder));
 }
 
 #[test]
 fn work_12_row_place() {
     // 2Db − 3Tb = 5788, 2Db − Tb = 6024
     assert!(work(&with_field(31, 2893)).is_ok());
-    assert_eq!(work(&with_field(31, 2894)), Err(WorkRefusal::RowPlace));
+    assert_eq!(work(&with_field(31, 2894)), Err(Trouble::RowPlace));
     let worked = |first, second| work(&extended(|face| face.levers = levers(first, second)));
     assert!(worked(3500, 2893).is_ok());
-    assert_eq!(worked(3012, 2400), Err(WorkRefusal::RowPlace));
-    assert_eq!(worked(3013, 2400), Err(WorkRefusal::TooTight));
-    assert_eq!(worked(3500, 2894), Err(WorkRefusal::RowPlace));
+    assert_eq!(worked(3012, 2400), Err(Trouble::RowPlace));
+    assert_eq!(worked(3013, 2400), Err(Trouble::TooTight));
+    assert_eq!(worked(3500, 2894), Err(Trouble::RowPlace));
 }
 
 #[test]
 fn work_13_too_tight() {
     // column m = 5(900 − tc) − 8×127, plate m = 5(900 − tb) − 480, e = 5(B − 900), mx = 10h − 30760
-    let tight = |joint: Joint| work(&joint) == Err(WorkRefusal::TooTight);
+    let tight = |joint: Joint| work(&joint) == Err(Trouble::TooTight);
     let column_m = |gauge| with(|joint| joint.face.layout.gauge = gauge);
     assert!(!tight(column_m(400)));
     assert!(tight(column_m(399)));
@@ -337,7 +362,7 @@ fn work_14_too_thick() {
     };
     assert!(worked(132, 500).is_ok());
     assert!(worked(500, 60).is_ok());
-    assert_eq!(worked(500, 500), Err(WorkRefusal::TooThick));
+    assert_eq!(worked(500, 500), Err(Trouble::TooThick));
 }
 
 /// Every trouble at once, put right one after the other.
@@ -352,17 +377,17 @@ fn work_refuses_in_order() {
         joint.face.loads.axial = 10_000_000;
         joint.face.levers = levers(9000, 9000);
     });
-    assert_eq!(work(&joint), Err(WorkRefusal::Field(22)));
+    assert_eq!(work(&joint), Err(Trouble::Field(22)));
     joint.face.layout.alpha = 600;
-    assert_eq!(work(&joint), Err(WorkRefusal::LeverOrder));
+    assert_eq!(work(&joint), Err(Trouble::LeverOrder));
     joint.face.levers = levers(9000, 2400);
-    assert_eq!(work(&joint), Err(WorkRefusal::RowPlace));
+    assert_eq!(work(&joint), Err(Trouble::RowPlace));
     joint.face.levers = levers(2500, 2400);
-    assert_eq!(work(&joint), Err(WorkRefusal::TooTight));
+    assert_eq!(work(&joint), Err(Trouble::TooTight));
     joint.face.layout.gauge = 900;
-    assert_eq!(work(&joint), Err(WorkRefusal::TooThick));
+    assert_eq!(work(&joint), Err(Trouble::TooThick));
     joint.column.flange = 132;
-    assert_eq!(work(&joint), Err(WorkRefusal::Compression));
+    assert_eq!(work(&joint), Err(Trouble::Compression));
     joint.face.loads.axial = 0;
     assert!(work(&joint).is_ok());
 }
