@@ -1,11 +1,14 @@
 /* The proved calls, for C. Link with libexports.a.
  *
- * A slice is a pointer with its count of elements. A joint is 38 words, its fields in order (docs/rules.md, 2.1) with spare levers 0; the axial
- * force is its two's complement. Slices that a call reads and slices that it writes don't overlap.
+ * A slice is a pointer with its count of elements. A joint is 66 words: its fields in order (docs/rules.md, 2.1) with eight levers, spare ones 0,
+ * then the second face's fields 1, 2, 6, 7 and 14 to 29 with its eight levers. These last 28 words are looked at only where field 1 is 17
+ * to 24, and jinqewan_read puts 0 there for a joint with one face. The axial force is its two's complement. Slices that a call reads and
+ * slices that it writes don't overlap.
  *
  * Each call but jinqewan_rest answers 0 where it did what it is for, and else one number that tells why not: the refusal's number
- * (JINQEWAN_NUMBER) and, for refusal 10, the field (JINQEWAN_FIELD); or JINQEWAN_SHORT where a slice can't hold a joint or a result; or,
- * of the sheet alone, JINQEWAN_NO_ROOM. Whatever is answered but 0, every slice and place that was lent is as it was. */
+ * (JINQEWAN_NUMBER), for refusal 10 the field (JINQEWAN_FIELD) and, where jinqewan_work refuses a joint with two faces, the face
+ * (JINQEWAN_FACE); or JINQEWAN_SHORT where a slice can't hold a joint or a result; or, of the sheet alone, JINQEWAN_NO_ROOM. Whatever is
+ * answered but 0, every slice and place that was lent is as it was. */
 #ifndef JINQEWAN_H
 #define JINQEWAN_H
 
@@ -17,10 +20,11 @@ extern "C" {
 #endif
 
 enum {
-    JINQEWAN_JOINT_WORDS = 38,
+    JINQEWAN_JOINT_WORDS = 66,
+    JINQEWAN_SECOND_FACE_FIELDS = 38,   /* where the second face's words begin in a joint */
     JINQEWAN_FORCES = 8,
-    JINQEWAN_RESULT_WORDS = 17,
-    JINQEWAN_LONGEST_FILE = 186,
+    JINQEWAN_RESULT_WORDS = 35,
+    JINQEWAN_LONGEST_FILE = 322,
     JINQEWAN_LONGEST_INPUT = 65536,
     JINQEWAN_SHORT = 100,
     JINQEWAN_NO_ROOM = 101
@@ -32,14 +36,15 @@ enum {
     JINQEWAN_NEW_KIND = 2
 };
 
-/* The parts of an answer. */
+/* The parts of an answer. The face is 1 or 2 where jinqewan_work refuses a joint with two faces, else 0. */
 #define JINQEWAN_NUMBER(answer) ((answer) & 255u)
 #define JINQEWAN_FIELD(answer) (((answer) >> 8) & 255u)
+#define JINQEWAN_FACE(answer) (((answer) >> 16) & 255u)
 
 /* No sheet of so many bytes of input is longer, up to JINQEWAN_LONGEST_INPUT of them. */
-#define JINQEWAN_LONGEST_SHEET(bytes) (((size_t)(bytes) + 30) / 31 * 283)
+#define JINQEWAN_LONGEST_SHEET(bytes) (((size_t)(bytes) + 25) / 26 * 285)
 
-/* The words of a result. */
+/* The words of a result. Those of the second face stand JINQEWAN_SECOND_FACE places further on; they are 0 where there is none. */
 enum {
     JINQEWAN_FORCE = 0,         /* eight row forces, newtons */
     JINQEWAN_SUM = 8,           /* newtons */
@@ -50,13 +55,15 @@ enum {
     JINQEWAN_BENDING = 13,      /* 1 where the joint passes, else 0 */
     JINQEWAN_BOLTS = 14,
     JINQEWAN_FLANGE_WELD = 15,
-    JINQEWAN_WEB_WELD = 16
+    JINQEWAN_WEB_WELD = 16,
+    JINQEWAN_SECOND_FACE = 17,
+    JINQEWAN_PANEL = 34         /* of two faces: 1 where the column's web panel passes, else 0 */
 };
 
 /* Row forces under the limits of row groups 1-1, 1-2, .. 1-n, 2-2 and so on. `forces` has 8 places. */
 uint32_t jinqewan_allocate(size_t count, const uint64_t *limits, size_t limits_length, uint64_t *forces, size_t forces_length);
 
-/* The joint that the bytes, files of this kind, begin with, into `fields`, which has 38 places, and the place after it into `next`. */
+/* The joint that the bytes, files of this kind, begin with, into `fields`, which has 66 places, and the place after it into `next`. */
 uint32_t jinqewan_read(const uint8_t *bytes, size_t bytes_length, uint32_t kind, uint32_t *fields, size_t fields_length, size_t *next);
 
 /* The place where the bytes after the first joint begin: the end when it can't be read. */
@@ -65,7 +72,7 @@ size_t jinqewan_rest(const uint8_t *bytes, size_t bytes_length, uint32_t kind);
 /* The joint's file, of the new kind, into `buffer`, and its length into `length`. */
 uint32_t jinqewan_write(const uint32_t *fields, size_t fields_length, uint8_t *buffer, size_t buffer_length, size_t *length);
 
-/* The joint worked, into `result`, which has 17 places. */
+/* The joint worked, into `result`, which has 35 places. */
 uint32_t jinqewan_work(const uint32_t *fields, size_t fields_length, uint64_t *result, size_t result_length);
 
 /* The sheet of joint files of the new kind end to end, into `output`, and its length into `length`. The sheet's refusals are its lines,

@@ -1,14 +1,21 @@
-//! The proved calls. A joint is 38 words of 32 bits, its fields in order (docs/rules.md, 2.1), N by its two's complement. Each call but `rest`
-//! answers 0 where it did what it is for, and else one number that tells why not (`number`, `field`); then every slice and place that was
-//! lent is as it was.
+//! The proved calls. A joint is 66 words of 32 bits: its fields in order (docs/rules.md, 2.1) with eight levers, 38 words, and the second
+//! face's fields 1, 2, 6, 7 and 14 to 29 with eight levers, which are looked at only where field 1 is 17 to 24. N is by its two's
+//! complement. Each call but `rest` answers 0 where it did what it is for, and else one number that tells why not (`number`, `field`,
+//! `face`); then every slice and place that was lent is as it was.
 
 /// Words of a joint.
-pub const JOINT_WORDS: usize = 38;
+pub const JOINT_WORDS: usize = 66;
+/// Where the second face's words begin in a joint.
+pub const SECOND_FACE_FIELDS: usize = 38;
 /// Places of Allocate's answer.
 pub const FORCES: usize = 8;
-/// Words of a result: eight forces, sum, newton metres, cap, check (0 to 3 for F, B, K, S), governing force, and 1 or 0 for bending,
-/// bolts, flange weld and web weld.
-pub const RESULT_WORDS: usize = 17;
+/// Words of a face's result: eight forces, sum, newton metres, cap, check (0 to 3 for F, B, K, S), governing force, and 1 or 0 for
+/// bending, bolts, flange weld and web weld.
+pub const FACE_WORDS: usize = 17;
+/// Where the panel's verdict stands in a result: 1 if it passes, 0 if it fails or there is one face.
+pub const PANEL: usize = 2 * FACE_WORDS;
+/// Words of a result: those of the first face, those of the second, which are 0 where there is none, and the panel's.
+pub const RESULT_WORDS: usize = PANEL + 1;
 /// A file without field 30; it gives 15000 for it.
 pub const OLD_KIND: u32 = 1;
 /// A file with field 30. Any number but 1 is taken for this one.
@@ -28,9 +35,14 @@ pub const fn field(answer: u32) -> u32 {
     answer >> 8 & 255
 }
 
+/// The face in an answer: 1 or 2 where Work refuses a joint with two faces, else 0.
+pub const fn face(answer: u32) -> u32 {
+    answer >> 16 & 255
+}
+
 /// No sheet of so many bytes is longer. In an output that is shorter the lines are measured before they are printed.
 pub const fn longest_sheet(input: usize) -> usize {
-    (input + 30) / 31 * 283
+    (input + 25) / 26 * 285
 }
 
 mod c {
