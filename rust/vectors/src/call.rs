@@ -1,6 +1,6 @@
 //! The kinds of vectors, and reading what they ask.
 
-use crate::items::Items;
+use crate::items::{Form, Items};
 use reference::{FileKind, Joint};
 
 /// The longest buffer that Write is lent.
@@ -11,7 +11,7 @@ const MOST_LIMITS: usize = 64;
 /// What a vector asks.
 #[derive(Debug, PartialEq)]
 pub enum Call {
-    Work(Joint),
+    Work { joint: Joint, form: Form },
     Allocate { count: u64, limits: Vec<u64> },
     Read { bytes: Vec<u8>, kind: FileKind },
     Write { joint: Joint, size: usize },
@@ -42,25 +42,36 @@ impl Call {
     pub fn of(text: &str) -> Result<Call, String> {
         let (word, mut items) = Items::of(text);
         let call = match word {
-            "work" => Call::Work(items.joint()?),
+            "work" => work(&mut items)?,
             "allocate" => allocate(&mut items)?,
             "read" => read(&mut items, FileKind::New)?,
             "old" => read(&mut items, FileKind::Old)?,
-            "write" => Call::Write {
-                joint: items.joint()?,
-                size: items.number(0..=LONGEST_BUFFER)? as usize,
-            },
+            "write" => write(&mut items)?,
             "cell" => Call::Cell(cell(&mut items, false)?),
             "exception" => Call::Cell(cell(&mut items, true)?),
             "shear" => Call::Shear {
                 printed: printed(&mut items)?,
-                joint: items.joint()?,
+                joint: items.joint(Form::Short)?,
             },
             _ => return Err(format!("`{word}` is no kind of vector")),
         };
         items.end()?;
         Ok(call)
     }
+}
+
+fn work(items: &mut Items) -> Result<Call, String> {
+    let form = items.form(0);
+    let joint = items.joint(form)?;
+    Ok(Call::Work { joint, form })
+}
+
+fn write(items: &mut Items) -> Result<Call, String> {
+    let form = items.form(1);
+    Ok(Call::Write {
+        joint: items.joint(form)?,
+        size: items.number(0..=LONGEST_BUFFER)? as usize,
+    })
 }
 
 fn allocate(items: &mut Items) -> Result<Call, String> {
@@ -81,7 +92,7 @@ fn cell(items: &mut Items, is_exception: bool) -> Result<Cell, String> {
     Ok(Cell {
         printed: printed(items)?,
         place: items.number(1..=19)? as usize,
-        joint: items.joint()?,
+        joint: items.joint(Form::Short)?,
         is_exception,
     })
 }
@@ -99,13 +110,14 @@ fn printed(items: &mut Items) -> Result<Printed, String> {
 #[cfg(test)]
 mod tests {
     use super::*;
-    use crate::JOINT_I;
+    use crate::{JOINT_I, SECOND_FACE_I};
 
     #[test]
     fn good_lines() {
-        let Ok(Call::Work(joint)) = Call::of(&format!("work {JOINT_I}")) else {
+        let Ok(Call::Work { joint, form }) = Call::of(&format!("work {JOINT_I}")) else {
             panic!("work");
         };
+        assert_eq!(form, Form::Short);
         let written = Call::Write { joint, size: 512 };
         assert_eq!(Call::of(&format!("write {JOINT_I} 512")), Ok(written));
         let none = Call::Allocate {
@@ -136,6 +148,33 @@ mod tests {
     }
 
     #[test]
+    fn joints_of_both_forms() {
+        let Ok(Call::Work { joint, form }) = Call::of(&format!("work {JOINT_I} {SECOND_FACE_I}"))
+        else {
+            panic!("work");
+        };
+        assert_eq!(form, Form::Long);
+        assert_eq!(joint.other, joint.face);
+        let written = Call::Write { joint, size: 0 };
+        let line = format!("write {JOINT_I} {SECOND_FACE_I} 0");
+        assert_eq!(Call::of(&line), Ok(written));
+        for line in [
+            format!("work {JOINT_I} {SECOND_FACE_I} 0"),
+            format!("shear 1 2 3 4 {JOINT_I} {SECOND_FACE_I}"),
+            format!("cell 1 2 3 4 19 {JOINT_I} {SECOND_FACE_I}"),
+            format!("work {JOINT_I} 1 0 275"),
+        ] {
+            let why = Call::of(&line).unwrap_err();
+            assert!(why.ends_with("stands after the last item"), "{why}");
+        }
+        let one_short = SECOND_FACE_I.strip_suffix(" 0").unwrap();
+        assert_eq!(
+            Call::of(&format!("write {JOINT_I} {one_short} 0")).unwrap_err(),
+            "`0` stands after the last item"
+        );
+    }
+
+    #[test]
     fn files_of_both_kinds() {
         for (text, kind) in [("read 0a", FileKind::New), ("old 0a", FileKind::Old)] {
             let bytes = vec![10];
@@ -147,15 +186,20 @@ mod tests {
     }
 
     #[test]
-    fn the_axial_force_alone_has_a_sign() {
+    fn the_axial_forces_alone_have_a_sign() {
+        let long = format!("{JOINT_I} {SECOND_FACE_I}");
         let with = |place: usize, item: &str| {
-            let mut items: Vec<&str> = JOINT_I.split(' ').collect();
+            let mut items: Vec<&str> = long.split(' ').collect();
             items[place - 1] = item;
             Call::of(&format!("work {}", items.join(" ")))
         };
         assert!(with(27, "-2147483648").is_ok());
         assert!(with(27, "2147483648").is_err());
         assert!(with(28, "4294967295").is_ok());
+        assert!(with(56, "-2147483648").is_ok());
+        assert!(with(56, "2147483648").is_err());
+        assert!(with(55, "-1").is_err());
+        assert!(with(57, "4294967295").is_ok());
         assert_eq!(
             with(28, "-1").unwrap_err(),
             "item 28, `-1`: not a number from 0 to 4294967295"

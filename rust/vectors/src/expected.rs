@@ -1,8 +1,10 @@
 //! What each vector should come to, by the plain reading.
 
 use crate::call::{Call, Cell, Printed};
-use crate::items::Answer;
-use reference::{allocate, read, work, write, FaceResult, FileKind, Joint, ROWS};
+use crate::items::{Answer, Form};
+use reference::{
+    allocate, read, work, write, FaceResult, FileKind, Joint, JointResult, WorkRefusal, ROWS,
+};
 
 /// What each byte of the buffer is before Write is called.
 const UNWRITTEN: u8 = 0xa5;
@@ -10,7 +12,7 @@ const UNWRITTEN: u8 = 0xa5;
 /// The expected items. A printed figure that isn't met as its line says is an error.
 pub fn expected(call: &Call) -> Result<String, String> {
     let answer = match call {
-        Call::Work(joint) => Answer::default().numbers(&worked(joint)),
+        Call::Work { joint, form } => worked(&work(joint), *form),
         Call::Allocate { count, limits } => shared(*count, limits),
         Call::Read { bytes, kind } => joint_read(bytes, *kind),
         Call::Write { joint, size } => written(joint, *size),
@@ -20,11 +22,24 @@ pub fn expected(call: &Call) -> Result<String, String> {
     Ok(answer.text())
 }
 
-/// Refusal, field and the result's 17 numbers, which are 0 in a refusal.
-fn worked(joint: &Joint) -> [u64; 19] {
+/// Of a joint in the long form the second face's result, the panel's verdict and the face refused come last.
+fn worked(worked: &Result<JointResult, WorkRefusal>, form: Form) -> Answer {
+    let answer = Answer::default().numbers(&first_face_items(worked));
+    if form == Form::Short {
+        return answer;
+    }
+    let other = worked.ok().and_then(|result| result.other);
+    answer
+        .numbers(&other.map_or([0; 17], |other| result_items(&other.face)))
+        .number(other.map_or(0, |other| u64::from(other.panel_passes)))
+        .number(worked.err().map_or(0, |refusal| u64::from(refusal.face)))
+}
+
+/// Refusal, field and the first face's 17 numbers, which are 0 in a refusal.
+fn first_face_items(worked: &Result<JointResult, WorkRefusal>) -> [u64; 19] {
     let mut items = [0; 19];
-    match work(joint) {
-        Ok(result) => items[2..].copy_from_slice(&result_items(&result)),
+    match worked {
+        Ok(result) => items[2..].copy_from_slice(&result_items(&result.face)),
         Err(refusal) => {
             items[0] = u64::from(refusal.number());
             items[1] = u64::from(refusal.field());
@@ -66,10 +81,15 @@ fn joint_read(bytes: &[u8], kind: FileKind) -> Answer {
         Ok((joint, rest)) => (0, bytes.len() - rest.len(), joint),
         Err(refusal) => (refusal as u64, bytes.len(), Joint::default()),
     };
+    let form = if joint.is_two_faced() {
+        Form::Long
+    } else {
+        Form::Short
+    };
     Answer::default()
         .number(refusal)
         .number(next as u64)
-        .joint(&joint)
+        .joint(&joint, form)
 }
 
 fn written(joint: &Joint, size: usize) -> Answer {
@@ -86,7 +106,7 @@ fn written(joint: &Joint, size: usize) -> Answer {
 
 /// A cell agrees; an exception doesn't.
 fn cell_met(cell: &Cell) -> Result<Answer, String> {
-    let items = worked(&cell.joint);
+    let items = first_face_items(&work(&cell.joint));
     let figure = items[cell.place - 1];
     let agrees = agrees(&cell.printed, figure);
     if agrees == cell.is_exception {
@@ -130,7 +150,7 @@ fn bolts_pass(joint: &Joint, count: u64, force: Option<u64>) -> Result<u64, Stri
     let mut joint = *joint;
     joint.face.loads.shear = shear;
     match work(&joint) {
-        Ok(result) => Ok(u64::from(result.verdicts.bolts)),
+        Ok(result) => Ok(u64::from(result.face.verdicts.bolts)),
         Err(refusal) => Err(format!("refused by {}", refusal.number())),
     }
 }
@@ -138,7 +158,7 @@ fn bolts_pass(joint: &Joint, count: u64, force: Option<u64>) -> Result<u64, Stri
 #[cfg(test)]
 mod tests {
     use super::*;
-    use crate::JOINT_I;
+    use crate::{JOINT_I, SECOND_FACE_I};
 
     const RESULT_I: &str = " 0 0 219345 0 0 0 0 0 0 0 219345 52642 407706 2 407706 1 1 1 1";
     const FILE_I: &str = "01005814930293029302a329a7108401607f9d25ff17f90c7643d00fc801840700d804503cd00f0100a8bd03d086039875e012";
@@ -163,6 +183,83 @@ mod tests {
         assert_eq!(
             answer(&format!("work {compressed}")).unwrap(),
             format!(" 15{}", zeros(18))
+        );
+    }
+
+    /// Joint I on both faces.
+    fn two_faced() -> String {
+        format!("17{} {SECOND_FACE_I}", JOINT_I.strip_prefix('1').unwrap())
+    }
+
+    #[test]
+    fn work_vectors_of_two_faces() {
+        let result = RESULT_I.strip_prefix(" 0 0").unwrap();
+        let line = format!("work {}", two_faced());
+        assert_eq!(answer(&line).unwrap(), format!("{RESULT_I}{result} 1 0"));
+        for (found, changed, refused) in [
+            (
+                "2000 1 0 57000 50000 15000",
+                "2000 1 407707 57000 50000 15000",
+                "15 0 1",
+            ),
+            (
+                "2000 1 0 57000 50000 2400",
+                "2000 1 407707 57000 50000 2400",
+                "15 0 2",
+            ),
+            (" 1 0 275 275 3071", " 9 0 275 275 3071", "10 1 2"),
+        ] {
+            let [number, field, face] = refused.split(' ').collect::<Vec<_>>()[..] else {
+                panic!("{refused}");
+            };
+            assert_eq!(
+                answer(&line.replace(found, changed)).unwrap(),
+                format!(" {number} {field}{} {face}", zeros(35))
+            );
+        }
+    }
+
+    #[test]
+    fn a_second_face_that_is_not_there() {
+        let result = format!("{RESULT_I}{}", zeros(19));
+        let junk = " 4294967295".repeat(17) + " -1" + &" 4294967295".repeat(10);
+        for second_face in [zeros(28), junk] {
+            assert_eq!(
+                answer(&format!("work {JOINT_I}{second_face}")).unwrap(),
+                result
+            );
+            assert_eq!(
+                answer(&format!("write {JOINT_I}{second_face} 51")).unwrap(),
+                format!(" 0 51 {FILE_I}")
+            );
+        }
+        let nine_rows = JOINT_I.replacen('1', "9", 1);
+        assert_eq!(
+            answer(&format!("work {nine_rows} {SECOND_FACE_I}")).unwrap(),
+            format!(" 10 1{}", zeros(36))
+        );
+    }
+
+    #[test]
+    fn files_of_two_faces() {
+        let second_file = "010093029302ff17f90c7643d00fc801840700d804503cd00f0100a8bd03d08603e012";
+        let file = format!("11{}{second_file}", FILE_I.strip_prefix("01").unwrap());
+        let joint = two_faced();
+        assert_eq!(
+            answer(&format!("read {file}ff")).unwrap(),
+            format!(" 0 86 {joint}")
+        );
+        assert_eq!(
+            answer(&format!("old {}", file.replace("9875", ""))).unwrap(),
+            format!(" 0 84 {joint}")
+        );
+        assert_eq!(
+            answer(&format!("write {joint} 86")).unwrap(),
+            format!(" 0 86 {file}")
+        );
+        assert_eq!(
+            answer(&format!("read {}", &file[..160])).unwrap(),
+            format!(" 1 80{}", zeros(38))
         );
     }
 

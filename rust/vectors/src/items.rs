@@ -1,11 +1,29 @@
 //! The items of a vector: numbers, bytes and joints, each with one space before it.
 
-use reference::{Joint, FIELDS};
+use reference::{Joint, FIELDS, ONE_FACED_FIELDS};
 use std::fmt::Write;
 use std::ops::RangeInclusive;
 
-/// Where the axial force stands: the one number that may be below 0.
-const AXIAL: usize = 26;
+/// Where the axial forces of both faces stand: the numbers that may be below 0.
+const AXIALS: [usize; 2] = [26, 55];
+
+/// How many of a joint's numbers a line has.
+#[derive(Clone, Copy, Debug, PartialEq)]
+pub enum Form {
+    /// 38, without those of a second face, which are 0
+    Short,
+    /// 66, with those of a second face
+    Long,
+}
+
+impl Form {
+    fn numbers(self) -> usize {
+        match self {
+            Form::Short => ONE_FACED_FIELDS,
+            Form::Long => FIELDS,
+        }
+    }
+}
 
 /// A vector's word and items, taken one after the other. Items count from 1.
 pub struct Items<'a> {
@@ -38,17 +56,26 @@ impl<'a> Items<'a> {
         (0..count).map(|_| self.number(0..=u64::MAX)).collect()
     }
 
-    /// 38 numbers, the fields in file order with spare levers.
-    pub fn joint(&mut self) -> Result<Joint, String> {
+    /// The fields in file order with spare levers.
+    pub fn joint(&mut self, form: Form) -> Result<Joint, String> {
         let mut fields = [0; FIELDS];
-        for (place, field) in fields.iter_mut().enumerate() {
-            *field = if place == AXIAL {
+        for (place, field) in fields[..form.numbers()].iter_mut().enumerate() {
+            *field = if AXIALS.contains(&place) {
                 self.signed()? as u32
             } else {
                 self.number(0..=u64::from(u32::MAX))? as u32
             };
         }
         Ok(Joint::from_fields(&fields))
+    }
+
+    /// The form of the joint that comes next, with so many items after it: a long one where there are enough.
+    pub fn form(&self, after: usize) -> Form {
+        if self.left.clone().count() >= FIELDS + after {
+            Form::Long
+        } else {
+            Form::Short
+        }
     }
 
     /// Two lower-case digits a byte, or a hyphen for none.
@@ -139,9 +166,10 @@ impl Answer {
             .fold(self, |answer, &value| answer.number(value))
     }
 
-    pub fn joint(mut self, joint: &Joint) -> Answer {
-        for (place, field) in joint.to_fields().into_iter().enumerate() {
-            if place == AXIAL {
+    pub fn joint(mut self, joint: &Joint, form: Form) -> Answer {
+        let fields = joint.to_fields();
+        for (place, &field) in fields[..form.numbers()].iter().enumerate() {
+            if AXIALS.contains(&place) {
                 self.put(format_args!(" {}", field as i32));
             } else {
                 self.put(format_args!(" {field}"));

@@ -62,6 +62,11 @@ fn renew_line(line: &[u8]) -> Result<String, String> {
 #[cfg(test)]
 const JOINT_I: &str = "1 0 88 20 275 275 275 5283 2087 132 96 127 4765 3071 1657 118 67 2000 200 900 0 600 80 60 2000 1 0 57000 50000 15000 2400 0 0 0 0 0 0 0";
 
+/// The same on a second face.
+#[cfg(test)]
+const SECOND_FACE_I: &str =
+    "1 0 275 275 3071 1657 118 67 2000 200 900 0 600 80 60 2000 1 0 57000 50000 2400 0 0 0 0 0 0 0";
+
 #[cfg(test)]
 mod tests {
     use super::*;
