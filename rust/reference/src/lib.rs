@@ -14,6 +14,7 @@ mod tension;
 mod verdict;
 mod work;
 
+pub use compression::panel_shear;
 pub use file::{read, rest, write, FileKind, ReadRefusal, WriteRefusal, LONGEST_FILE};
 pub use joint::{
     Beam, Bolts, Column, Face, Joint, Layout, Loads, Plate, Welds, FIELDS, ONE_FACED_FIELDS, OWN,

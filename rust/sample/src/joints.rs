@@ -1,7 +1,10 @@
-//! Random joints.
+//! Random joints with one face.
 
 use crate::random::Random;
-use reference::{work, Beam, Bolts, Column, Face, Joint, Layout, Loads, Plate, Welds, FIELDS};
+use crate::two_faces::{any_two_faced_joint, unread_face};
+use reference::{
+    work, Beam, Bolts, Column, Face, Joint, Layout, Loads, Plate, Welds, ONE_FACED_FIELDS,
+};
 
 /// The ends of fields 8 to 20, 22 to 26 and 30, which are plain ranges.
 const RANGES: [(usize, u32, u32); 19] = [
@@ -35,9 +38,10 @@ pub fn sensible_joint(random: &mut Random, rows: u32) -> Joint {
             diameter: random.pick(&[12, 16, 20, 24, 30]),
         },
         face: face(random, rows),
+        other: Face::default(),
     };
     thin_one_part(random, &mut joint);
-    joint.face.layout.gauge = gauge(random, &joint);
+    joint.face.layout.gauge = gauge(random, &joint.column, &joint.face);
     place_rows(random, &mut joint.face);
     joint
 }
@@ -83,7 +87,7 @@ fn end_distance(random: &mut Random, clear: u32) -> u32 {
 }
 
 /// A face whose gauge and levers are still 0.
-fn face(random: &mut Random, rows: u32) -> Face {
+pub fn face(random: &mut Random, rows: u32) -> Face {
     let extended = random.between(0, 1);
     Face {
         rows,
@@ -147,23 +151,41 @@ pub fn worked_joint(random: &mut Random, rows: u32) -> Joint {
     }
 }
 
-/// A sensible joint, or one with a field at or past an end of its range, out of order, out of place, too tight, too thick or
-/// compressed too far.
+/// With one face or two.
 pub fn any_joint(random: &mut Random) -> Joint {
+    if random.one_in(3) {
+        any_two_faced_joint(random)
+    } else {
+        any_one_faced_joint(random)
+    }
+}
+
+/// A sensible joint, or one in trouble, or with anything in all its fields; now and then with something in the fields of a second face.
+fn any_one_faced_joint(random: &mut Random) -> Joint {
     let rows = random.between(1, 8);
     let mut joint = sensible_joint(random, rows);
     match random.below(24) {
-        0 | 1 => shift_field(random, &mut joint, false),
-        2 => shift_field(random, &mut joint, true),
-        3 => swap_levers(random, &mut joint.face),
-        4 => move_row(random, &mut joint.face),
-        5 => tighten(random, &mut joint),
-        6 => thicken(random, &mut joint),
+        0..=6 => trouble(random, &mut joint),
         7 => compress(random, &mut joint),
         8 => wild_fields(random, &mut joint),
         _ => {}
     }
+    if random.one_in(8) {
+        joint.other = unread_face(random, &joint.face);
+    }
     joint
+}
+
+/// A field at or past an end of its range, rows out of order or out of place, bolts too tight, or parts too thick.
+pub fn trouble(random: &mut Random, joint: &mut Joint) {
+    match random.below(7) {
+        0 | 1 => shift_field(random, joint, false),
+        2 => shift_field(random, joint, true),
+        3 => swap_levers(random, &mut joint.face),
+        4 => move_row(random, &mut joint.face),
+        5 => tighten(random, joint),
+        _ => thicken(random, joint),
+    }
 }
 
 /// Column flange or plate is mostly thin enough for the bolts.
@@ -180,8 +202,7 @@ fn thin_one_part(random: &mut Random, joint: &mut Joint) {
 }
 
 /// Mostly one that leaves m and e room on both sides.
-fn gauge(random: &mut Random, joint: &Joint) -> u32 {
-    let Joint { column, face, .. } = joint;
+pub fn gauge(random: &mut Random, column: &Column, face: &Face) -> u32 {
     let by_column = column.web + (8 * column.radius + 500).div_ceil(5);
     let by_plate = face.beam.web + (8 * face.welds.web + 500).div_ceil(5);
     let least = by_column.max(by_plate).max(300);
@@ -213,7 +234,7 @@ fn load(random: &mut Random, most: u32) -> u32 {
 }
 
 /// Levers that fall, the first above the flange if extended, the others below it.
-fn place_rows(random: &mut Random, face: &mut Face) {
+pub fn place_rows(random: &mut Random, face: &mut Face) {
     let rows = face.row_count();
     let beam = &face.beam;
     let mut levers = Vec::new();
@@ -238,7 +259,7 @@ fn place_rows(random: &mut Random, face: &mut Face) {
 /// One field at an end of its range, or one past it, or anywhere.
 fn shift_field(random: &mut Random, joint: &mut Joint, anywhere: bool) {
     let mut fields = joint.to_fields();
-    let place = random.below(FIELDS as u64) as usize;
+    let place = random.below(ONE_FACED_FIELDS as u64) as usize;
     let (low, high) = ends(&joint.face, place + 1);
     fields[place] = match random.below(if anywhere { 8 } else { 5 }) {
         0 => low,
@@ -339,22 +360,32 @@ fn thicken(random: &mut Random, joint: &mut Joint) {
 fn compress(random: &mut Random, joint: &mut Joint) {
     joint.face.loads.axial = -10_000_000;
     if let Ok(result) = work(joint) {
-        let near = result.governing_force as i64 + i64::from(random.between(0, 4)) - 2;
-        joint.face.loads.axial = near.min(10_000_000) as i32;
+        joint.face.loads.axial = near(random, result.face.governing_force);
     }
+}
+
+/// An axial force about as great as a governing force.
+pub fn near(random: &mut Random, governing_force: u64) -> i32 {
+    let near = governing_force as i64 + i64::from(random.between(0, 4)) - 2;
+    near.min(10_000_000) as i32
 }
 
 /// Some fields anything at all.
 fn wild_fields(random: &mut Random, joint: &mut Joint) {
     let mut fields = joint.to_fields();
-    for field in &mut fields {
+    scatter(random, &mut fields[..ONE_FACED_FIELDS]);
+    if random.one_in(2) {
+        fields[0] = random.between(1, 8);
+    }
+    *joint = Joint::from_fields(&fields);
+}
+
+/// One field in four becomes a number of any size.
+pub fn scatter(random: &mut Random, fields: &mut [u32]) {
+    for field in fields {
         if random.one_in(4) {
             let bits = random.between(1, 32);
             *field = (random.next() >> (64 - bits)) as u32;
         }
     }
-    if random.one_in(2) {
-        fields[0] = random.between(1, 8);
-    }
-    *joint = Joint::from_fields(&fields);
 }

@@ -54,7 +54,7 @@ fn noise(random: &mut Random) -> Vec<u8> {
     let narrow = random.one_in(2);
     let byte = |random: &mut Random| {
         if narrow {
-            random.pick(&[0, 1, 8, 9, 15, 16, 0x7f, 0x80, 0x81, 0xff])
+            random.pick(&[0, 1, 8, 9, 15, 16, 17, 24, 25, 0x7f, 0x80, 0x81, 0xff])
         } else {
             random.next() as u8
         }
@@ -68,7 +68,8 @@ fn damage(random: &mut Random, bytes: &mut Vec<u8>) {
         return;
     }
     let place = random.below(bytes.len() as u64) as usize;
-    match random.below(7) {
+    match random.below(8) {
+        7 => bytes[place] = random.pick(&[0, 1, 8, 9, 16, 17, 24, 25]),
         0 => bytes.truncate(place),
         1 => bytes[place] ^= 1 << random.below(8),
         2 => bytes[place] = random.pick(&[0, 0x0f, 0x10, 0x7f, 0x80, 0xff]),
@@ -100,7 +101,7 @@ fn stretch(random: &mut Random, bytes: &mut Vec<u8>) {
 #[cfg(test)]
 mod tests {
     use super::*;
-    use reference::read;
+    use reference::{read, Face};
 
     #[test]
     fn the_old_kind_lacks_the_distance_to_the_column_end() {
@@ -110,6 +111,9 @@ mod tests {
             let file = file_of_kind(&joint, FileKind::Old);
             if !file.is_empty() {
                 joint.column.end_distance = 15000;
+                if !joint.is_two_faced() {
+                    joint.other = Face::default();
+                }
                 assert_eq!(read(&file, FileKind::Old), Ok((joint, &[][..])));
             }
         }
