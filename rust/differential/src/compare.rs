@@ -1,14 +1,13 @@
 //! One input, both answers.
 
+use crate::cases::{count_read, count_sheet, count_worked, count_written};
 use crate::tally::Tally;
 use proved::{
-    longest_sheet, FORCES, JOINT_WORDS, NEW_KIND, NO_ROOM, OLD_KIND, RESULT_WORDS, SHORT,
+    longest_sheet, FACE_WORDS, FORCES, JOINT_WORDS, NEW_KIND, NO_ROOM, OLD_KIND, PANEL,
+    RESULT_WORDS, SHORT,
 };
-use reference::{
-    Check, Column, FaceResult, FileKind, Joint, ReadRefusal, Verdicts, WorkRefusal, LONGEST_FILE,
-    LONGEST_INPUT,
-};
-use sample::{any_joint, file_of_kind, Random, Table};
+use reference::{FaceResult, FileKind, Joint, JointResult, LONGEST_FILE, LONGEST_INPUT};
+use sample::{any_joint, file_of, file_of_kind, Random, Table};
 use std::fmt::Debug;
 
 /// The input and both answers, for printing.
@@ -42,30 +41,40 @@ pub fn compare_work(joint: &Joint, tally: &mut Tally) -> Result<(), Difference> 
     let answer = proved::work(&fields, &mut words);
     let worked = reference::work(joint);
     let mut expected = [MARK_64; RESULT_WORDS + 1];
-    let (number, field) = match &worked {
+    let told = match &worked {
         Ok(result) => {
             expected[..RESULT_WORDS].copy_from_slice(&result_words(result));
-            (0, 0)
+            (0, 0, 0)
         }
-        Err(refusal) => (refusal.number(), refusal.field()),
+        Err(refusal) => (refusal.number(), refusal.field(), refusal.face),
     };
     count_worked(joint, &worked, tally);
+    let parts = (
+        proved::number(answer),
+        proved::field(answer),
+        proved::face(answer),
+    );
     same(
         "work",
         &fields,
-        (
-            answer >> 16,
-            proved::number(answer),
-            proved::field(answer),
-            words,
-        ),
-        (0, number, field, expected),
+        (answer >> 24, parts, words),
+        (0, told, expected),
     )
 }
 
 /// A result as the exported call gives it.
-fn result_words(result: &FaceResult) -> [u64; RESULT_WORDS] {
+fn result_words(result: &JointResult) -> [u64; RESULT_WORDS] {
     let mut words = [0; RESULT_WORDS];
+    words[..FACE_WORDS].copy_from_slice(&face_words(&result.face));
+    if let Some(other) = &result.other {
+        words[FACE_WORDS..PANEL].copy_from_slice(&face_words(&other.face));
+        words[PANEL] = u64::from(other.panel_passes);
+    }
+    words
+}
+
+fn face_words(result: &FaceResult) -> [u64; FACE_WORDS] {
+    let mut words = [0; FACE_WORDS];
     words[..8].copy_from_slice(&result.forces);
     words[8] = result.sum;
     words[9] = result.newton_metres;
@@ -79,89 +88,6 @@ fn result_words(result: &FaceResult) -> [u64; RESULT_WORDS] {
     words
 }
 
-fn count_worked(joint: &Joint, worked: &Result<FaceResult, WorkRefusal>, tally: &mut Tally) {
-    let result = match worked {
-        Ok(result) => result,
-        Err(refusal) => {
-            if let WorkRefusal::Field(field) = refusal {
-                tally.count_field(*field);
-            }
-            return tally.count(refusal_case(refusal));
-        }
-    };
-    tally.count("work: worked");
-    tally.count_rows(joint.face.rows);
-    tally.count(if joint.face.is_extended() {
-        "work: extended"
-    } else {
-        "work: flush"
-    });
-    tally.count(match result.check {
-        Check::Flange => "work: governed by F",
-        Check::Bearing => "work: governed by B",
-        Check::Buckling => "work: governed by K",
-        Check::Panel => "work: governed by S",
-    });
-    if result.sum == result.cap {
-        tally.count("work: limited by the cap");
-    }
-    count_column_end(&joint.column, result.check, tally);
-    count_verdicts(&result.verdicts, tally);
-}
-
-/// Where the column end stands to 0.7dc.
-fn count_column_end(column: &Column, check: Check, tally: &mut Tally) {
-    let end = 10 * column.end_distance;
-    let edge = 7 * column.clear;
-    if end < edge {
-        tally.count("work: buckling reduced near the column end");
-        if check == Check::Buckling {
-            tally.count("work: governed by reduced buckling");
-        }
-        if edge - end <= 10 {
-            tally.count("work: column end one step nearer than 0.7dc");
-        }
-    } else if end == edge {
-        tally.count("work: column end at 0.7dc");
-    } else if end - edge <= 10 {
-        tally.count("work: column end one step past 0.7dc");
-    }
-}
-
-fn count_verdicts(verdicts: &Verdicts, tally: &mut Tally) {
-    tally.count(if verdicts.bending {
-        "work: bending passes"
-    } else {
-        "work: bending fails"
-    });
-    tally.count(if verdicts.bolts {
-        "work: bolts pass"
-    } else {
-        "work: bolts fail"
-    });
-    tally.count(if verdicts.flange_weld {
-        "work: flange weld passes"
-    } else {
-        "work: flange weld fails"
-    });
-    tally.count(if verdicts.web_weld {
-        "work: web weld passes"
-    } else {
-        "work: web weld fails"
-    });
-}
-
-fn refusal_case(refusal: &WorkRefusal) -> &'static str {
-    match refusal {
-        WorkRefusal::Field(_) => "work: refusal 10",
-        WorkRefusal::LeverOrder => "work: refusal 11",
-        WorkRefusal::RowPlace => "work: refusal 12",
-        WorkRefusal::TooTight => "work: refusal 13",
-        WorkRefusal::TooThick => "work: refusal 14",
-        WorkRefusal::Compression => "work: refusal 15",
-    }
-}
-
 // ---- Write and Read
 
 /// Writes the joint to a buffer of some length, and reads what is there as either kind.
@@ -171,16 +97,17 @@ pub fn compare_file(
     tally: &mut Tally,
 ) -> Result<(), Difference> {
     let fields = joint.to_fields();
-    let size = random.below(2 * LONGEST_FILE as u64) as usize;
+    let size = buffer_size(joint, random);
     let mut buffer = vec![MARK_8; size];
     let mut length = MARK_PLACE;
     let answer = proved::write(&fields, &mut buffer, &mut length);
     let mut expected = vec![MARK_8; size];
-    let (number, expected_length, case) = match reference::write(joint, &mut expected) {
-        Ok(length) => (0, length, "write: file"),
-        Err(refusal) => (refusal as u32, MARK_PLACE, write_case(refusal)),
+    let written = reference::write(joint, &mut expected);
+    let (number, expected_length) = match written {
+        Ok(length) => (0, length),
+        Err(refusal) => (refusal as u32, MARK_PLACE),
     };
-    tally.count(case);
+    count_written(joint, &written, tally);
     same(
         "write",
         &(fields, size),
@@ -191,11 +118,12 @@ pub fn compare_file(
     compare_read(&buffer, kind_number(random, told), tally)
 }
 
-fn write_case(refusal: reference::WriteRefusal) -> &'static str {
-    match refusal {
-        reference::WriteRefusal::RowCount => "write: refusal 3",
-        reference::WriteRefusal::ShortBuffer => "write: refusal 5",
-        reference::WriteRefusal::SpareLever => "write: refusal 6",
+/// About the length of the file, or any.
+fn buffer_size(joint: &Joint, random: &mut Random) -> usize {
+    if random.one_in(3) {
+        (file_of(joint).len() + random.below(3) as usize).saturating_sub(1)
+    } else {
+        random.below(2 * LONGEST_FILE as u64) as usize
     }
 }
 
@@ -228,7 +156,10 @@ fn compare_read(bytes: &[u8], number: u32, tally: &mut Tally) -> Result<(), Diff
     let mut next = MARK_PLACE;
     let answer = proved::read(bytes, number, &mut fields, &mut next);
     let read = reference::read(bytes, kind);
-    count_read(number, &read.map(|_| ()), tally);
+    if number != OLD_KIND && number != NEW_KIND {
+        tally.count("read: the new kind by a number that isn't 2");
+    }
+    count_read(bytes, kind, &read.map(|(joint, _)| joint), tally);
     let mut expected = [MARK_32; JOINT_WORDS + 1];
     let (refusal, place) = match read {
         Ok((joint, rest)) => {
@@ -250,22 +181,6 @@ fn compare_read(bytes: &[u8], number: u32, tally: &mut Tally) -> Result<(), Diff
         bytes.get(start..),
         Some(reference::rest(bytes, kind)),
     )
-}
-
-fn count_read(number: u32, read: &Result<(), ReadRefusal>, tally: &mut Tally) {
-    if number != OLD_KIND && number != NEW_KIND {
-        tally.count("read: the new kind by a number that isn't 2");
-    }
-    tally.count(match (kind_of(number), read) {
-        (FileKind::New, Ok(())) => "read: joint",
-        (FileKind::New, Err(ReadRefusal::BytesEnd)) => "read: refusal 1",
-        (FileKind::New, Err(ReadRefusal::NumberForm)) => "read: refusal 2",
-        (FileKind::New, Err(ReadRefusal::RowCount)) => "read: refusal 3",
-        (FileKind::Old, Ok(())) => "read, old kind: joint",
-        (FileKind::Old, Err(ReadRefusal::BytesEnd)) => "read, old kind: refusal 1",
-        (FileKind::Old, Err(ReadRefusal::NumberForm)) => "read, old kind: refusal 2",
-        (FileKind::Old, Err(ReadRefusal::RowCount)) => "read, old kind: refusal 3",
-    });
 }
 
 // ---- Allocate
@@ -354,19 +269,6 @@ fn compare_sheet(bytes: &[u8], random: &mut Random, tally: &mut Tally) -> Result
         (answer, length, output),
         (0, lines.len(), expected),
     )
-}
-
-fn count_sheet(bytes: &[u8], lines: &[u8], tally: &mut Tally) {
-    tally.count(if bytes.len() > LONGEST_INPUT {
-        "sheet: R 4"
-    } else if lines.is_empty() {
-        "sheet: nothing"
-    } else if lines.ends_with(b" R 1\n") || lines.ends_with(b" R 2\n") || lines.ends_with(b" R 3\n")
-    {
-        "sheet: ended by a read refusal"
-    } else {
-        "sheet: to the end of the input"
-    });
 }
 
 // ---- Slices that are too short

@@ -2,6 +2,7 @@
 //! Usage: differential [SEED [JOINTS]]. The exit status is 1 at the first difference, whose input is printed in full, and where some
 //! refusal, check or verdict was never reached.
 
+mod cases;
 mod compare;
 mod tally;
 

@@ -4,7 +4,7 @@ use std::collections::BTreeMap;
 use std::fmt;
 
 /// What a run of full size has to reach.
-const CASES: [&str; 56] = [
+const CASES: [&str; 94] = [
     "allocate: refusal 3",
     "allocate: refusal 7",
     "allocate: refusal 8",
@@ -13,6 +13,14 @@ const CASES: [&str; 56] = [
     "read, old kind: refusal 1",
     "read, old kind: refusal 2",
     "read, old kind: refusal 3",
+    "read, two faces, old kind: joint",
+    "read, two faces, old kind: refusal 1 in the second",
+    "read, two faces, old kind: refusal 2 in the second",
+    "read, two faces, old kind: refusal 3 in the second",
+    "read, two faces: joint",
+    "read, two faces: refusal 1 in the second",
+    "read, two faces: refusal 2 in the second",
+    "read, two faces: refusal 3 in the second",
     "read: files of the other kind",
     "read: joint",
     "read: refusal 1",
@@ -26,10 +34,32 @@ const CASES: [&str; 56] = [
     "sheet: nothing",
     "sheet: printed straight",
     "sheet: to the end of the input",
+    "sheet: two lines of one joint",
     "short: allocate",
     "short: read",
     "short: work",
     "short: write",
+    "work, two faces: panel at its edge with a total below 0",
+    "work, two faces: panel fails",
+    "work, two faces: panel passes",
+    "work, two faces: panel shear below both governing forces",
+    "work, two faces: refusal 10 of the first",
+    "work, two faces: refusal 10 of the second",
+    "work, two faces: refusal 11 of the first",
+    "work, two faces: refusal 11 of the second",
+    "work, two faces: refusal 12 of the first",
+    "work, two faces: refusal 12 of the second",
+    "work, two faces: refusal 13 of the first",
+    "work, two faces: refusal 13 of the second",
+    "work, two faces: refusal 14 of the first",
+    "work, two faces: refusal 14 of the second",
+    "work, two faces: refusal 15 of the first",
+    "work, two faces: refusal 15 of the second",
+    "work, two faces: the first total greater by one newton more",
+    "work, two faces: the first total greater by panel shear",
+    "work, two faces: the second total greater by one newton more",
+    "work, two faces: the second total greater by panel shear",
+    "work, two faces: worked",
     "work: bending fails",
     "work: bending passes",
     "work: bolts fail",
@@ -57,7 +87,15 @@ const CASES: [&str; 56] = [
     "work: web weld fails",
     "work: web weld passes",
     "work: worked",
+    "work: worked, with something in the second face",
+    "write, two faces: 3 of the second before 6 of the first",
+    "write, two faces: file",
+    "write, two faces: refusal 3 of the second",
+    "write, two faces: refusal 5",
+    "write, two faces: refusal 6",
+    "write, two faces: refusal 6 of the second",
     "write: file",
+    "write: file, with something in the second face",
     "write: refusal 3",
     "write: refusal 5",
     "write: refusal 6",
@@ -66,23 +104,27 @@ const CASES: [&str; 56] = [
 #[derive(Default)]
 pub struct Tally {
     counts: BTreeMap<&'static str, u64>,
-    fields: BTreeMap<u32, u64>,
-    rows: BTreeMap<u32, u64>,
+    /// by the face, 0 in a joint with one
+    fields: [BTreeMap<u32, u64>; 3],
+    rows: [BTreeMap<u32, u64>; 3],
 }
+
+/// What each face is called where it is counted by number.
+const FACES: [&str; 3] = ["one face", "first of two", "second of two"];
 
 impl Tally {
     pub fn count(&mut self, case: &'static str) {
         *self.counts.entry(case).or_default() += 1;
     }
 
-    /// A worked joint's rows.
-    pub fn count_rows(&mut self, rows: u32) {
-        *self.rows.entry(rows).or_default() += 1;
+    /// The rows of a worked face.
+    pub fn count_rows(&mut self, face: u32, rows: u32) {
+        *self.rows[face as usize].entry(rows).or_default() += 1;
     }
 
     /// The field that refusal 10 told.
-    pub fn count_field(&mut self, field: u32) {
-        *self.fields.entry(field).or_default() += 1;
+    pub fn count_field(&mut self, face: u32, field: u32) {
+        *self.fields[face as usize].entry(field).or_default() += 1;
     }
 
     /// What was not reached.
@@ -91,13 +133,30 @@ impl Tally {
             .iter()
             .filter(|case| !self.counts.contains_key(**case))
             .map(|case| case.to_string());
+        let faces = (0..FACES.len()).flat_map(|face| self.missed_numbers(face));
+        cases.chain(faces).collect()
+    }
+
+    /// Fields that were never out of range, and row counts that were never worked.
+    fn missed_numbers(&self, face: usize) -> impl Iterator<Item = String> + '_ {
         let fields = (1..=38)
-            .filter(|field| !self.fields.contains_key(field))
-            .map(|field| format!("field {field}"));
+            .filter(move |&field| can_be_out(face, field))
+            .filter(move |field| !self.fields[face].contains_key(field))
+            .map(move |field| format!("{}: field {field}", FACES[face]));
         let rows = (1..=8)
-            .filter(|rows| !self.rows.contains_key(rows))
-            .map(|rows| format!("{rows} rows"));
-        cases.chain(fields).chain(rows).collect()
+            .filter(move |rows| !self.rows[face].contains_key(rows))
+            .map(move |rows| format!("{}: {rows} rows", FACES[face]));
+        fields.chain(rows)
+    }
+}
+
+/// Whether refusal 10 can tell the field of this face. Field 1 of the first of two is never out of range, since it says that there are
+/// two; of the second only its own fields are told.
+fn can_be_out(face: usize, field: u32) -> bool {
+    match face {
+        0 => true,
+        1 => field != 1,
+        _ => matches!(field, 1 | 2 | 6 | 7 | 14..=29 | 31..),
     }
 }
 
@@ -113,7 +172,14 @@ impl fmt::Display for Tally {
                 .collect();
             items.join(", ")
         };
-        writeln!(out, "worked joints by rows: {}", listed(&self.rows))?;
-        writeln!(out, "refusal 10 by field: {}", listed(&self.fields))
+        for (face, name) in FACES.iter().enumerate() {
+            writeln!(out, "{name}, worked by rows: {}", listed(&self.rows[face]))?;
+            writeln!(
+                out,
+                "{name}, refusal 10 by field: {}",
+                listed(&self.fields[face])
+            )?;
+        }
+        Ok(())
     }
 }

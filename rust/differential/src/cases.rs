@@ -1,0 +1,275 @@
+//! Which cases an input and its answer are, for the tally.
+
+use crate::tally::Tally;
+use reference::{
+    panel_shear, Check, Column, Face, FaceResult, FileKind, Joint, JointResult, OtherResult,
+    ReadRefusal, Trouble, Verdicts, WorkRefusal, WriteRefusal, LONGEST_INPUT, ROWS, SECOND_FACE,
+};
+
+// ---- Work
+
+pub fn count_worked(joint: &Joint, worked: &Result<JointResult, WorkRefusal>, tally: &mut Tally) {
+    let result = match worked {
+        Ok(result) => result,
+        Err(refusal) => return count_refusal(refusal, tally),
+    };
+    let Some(other) = &result.other else {
+        tally.count("work: worked");
+        if joint.other != Face::default() {
+            tally.count("work: worked, with something in the second face");
+        }
+        tally.count_rows(0, joint.face.rows);
+        return count_face(joint, &joint.face, &result.face, tally);
+    };
+    tally.count("work, two faces: worked");
+    tally.count_rows(1, joint.first_of_two().rows);
+    tally.count_rows(2, joint.other.rows);
+    count_face(joint, &joint.face, &result.face, tally);
+    count_face(joint, &joint.other, &other.face, tally);
+    count_panel(joint, &result.face, other, tally);
+}
+
+fn count_refusal(refusal: &WorkRefusal, tally: &mut Tally) {
+    if let Trouble::Field(field) = refusal.trouble {
+        tally.count_field(refusal.face, field);
+    }
+    tally.count(match refusal.face {
+        0 => refusal_case(refusal.trouble),
+        1 => refusal_case_of_first(refusal.trouble),
+        _ => refusal_case_of_second(refusal.trouble),
+    });
+}
+
+fn refusal_case(trouble: Trouble) -> &'static str {
+    match trouble {
+        Trouble::Field(_) => "work: refusal 10",
+        Trouble::LeverOrder => "work: refusal 11",
+        Trouble::RowPlace => "work: refusal 12",
+        Trouble::TooTight => "work: refusal 13",
+        Trouble::TooThick => "work: refusal 14",
+        Trouble::Compression => "work: refusal 15",
+    }
+}
+
+fn refusal_case_of_first(trouble: Trouble) -> &'static str {
+    match trouble {
+        Trouble::Field(_) => "work, two faces: refusal 10 of the first",
+        Trouble::LeverOrder => "work, two faces: refusal 11 of the first",
+        Trouble::RowPlace => "work, two faces: refusal 12 of the first",
+        Trouble::TooTight => "work, two faces: refusal 13 of the first",
+        Trouble::TooThick => "work, two faces: refusal 14 of the first",
+        Trouble::Compression => "work, two faces: refusal 15 of the first",
+    }
+}
+
+fn refusal_case_of_second(trouble: Trouble) -> &'static str {
+    match trouble {
+        Trouble::Field(_) => "work, two faces: refusal 10 of the second",
+        Trouble::LeverOrder => "work, two faces: refusal 11 of the second",
+        Trouble::RowPlace => "work, two faces: refusal 12 of the second",
+        Trouble::TooTight => "work, two faces: refusal 13 of the second",
+        Trouble::TooThick => "work, two faces: refusal 14 of the second",
+        Trouble::Compression => "work, two faces: refusal 15 of the second",
+    }
+}
+
+fn count_face(joint: &Joint, face: &Face, result: &FaceResult, tally: &mut Tally) {
+    tally.count(if face.is_extended() {
+        "work: extended"
+    } else {
+        "work: flush"
+    });
+    tally.count(match result.check {
+        Check::Flange => "work: governed by F",
+        Check::Bearing => "work: governed by B",
+        Check::Buckling => "work: governed by K",
+        Check::Panel => "work: governed by S",
+    });
+    if result.sum == result.cap {
+        tally.count("work: limited by the cap");
+    }
+    count_column_end(&joint.column, result.check, tally);
+    count_verdicts(&result.verdicts, tally);
+}
+
+/// Where the column end stands to 0.7dc.
+fn count_column_end(column: &Column, check: Check, tally: &mut Tally) {
+    let end = 10 * column.end_distance;
+    let edge = 7 * column.clear;
+    if end < edge {
+        tally.count("work: buckling reduced near the column end");
+        if check == Check::Buckling {
+            tally.count("work: governed by reduced buckling");
+        }
+        if edge - end <= 10 {
+            tally.count("work: column end one step nearer than 0.7dc");
+        }
+    } else if end == edge {
+        tally.count("work: column end at 0.7dc");
+    } else if end - edge <= 10 {
+        tally.count("work: column end one step past 0.7dc");
+    }
+}
+
+fn count_verdicts(verdicts: &Verdicts, tally: &mut Tally) {
+    tally.count(if verdicts.bending {
+        "work: bending passes"
+    } else {
+        "work: bending fails"
+    });
+    tally.count(if verdicts.bolts {
+        "work: bolts pass"
+    } else {
+        "work: bolts fail"
+    });
+    tally.count(if verdicts.flange_weld {
+        "work: flange weld passes"
+    } else {
+        "work: flange weld fails"
+    });
+    tally.count(if verdicts.web_weld {
+        "work: web weld passes"
+    } else {
+        "work: web weld fails"
+    });
+}
+
+/// How the two totals stand to panel shear.
+fn count_panel(joint: &Joint, first: &FaceResult, other: &OtherResult, tally: &mut Tally) {
+    let panel = panel_shear(&joint.column);
+    let totals = [
+        first.sum as i64 + i64::from(joint.face.loads.axial),
+        other.face.sum as i64 + i64::from(joint.other.loads.axial),
+    ];
+    tally.count(if other.panel_passes {
+        "work, two faces: panel passes"
+    } else {
+        "work, two faces: panel fails"
+    });
+    let difference = totals[0].abs_diff(totals[1]);
+    if difference == panel || difference == panel + 1 {
+        tally.count(match (difference == panel, totals[0] > totals[1]) {
+            (true, true) => "work, two faces: the first total greater by panel shear",
+            (true, false) => "work, two faces: the second total greater by panel shear",
+            (false, true) => "work, two faces: the first total greater by one newton more",
+            (false, false) => "work, two faces: the second total greater by one newton more",
+        });
+        if totals.iter().any(|&total| total < 0) {
+            tally.count("work, two faces: panel at its edge with a total below 0");
+        }
+    }
+    if panel < first.governing_force.min(other.face.governing_force) {
+        tally.count("work, two faces: panel shear below both governing forces");
+    }
+}
+
+// ---- Write and Read
+
+pub fn count_written(joint: &Joint, written: &Result<usize, WriteRefusal>, tally: &mut Tally) {
+    tally.count(match (written, joint.is_two_faced()) {
+        (Ok(_), false) => "write: file",
+        (Ok(_), true) => "write, two faces: file",
+        (Err(WriteRefusal::RowCount), false) => "write: refusal 3",
+        (Err(WriteRefusal::RowCount), true) => "write, two faces: refusal 3 of the second",
+        (Err(WriteRefusal::ShortBuffer), false) => "write: refusal 5",
+        (Err(WriteRefusal::ShortBuffer), true) => "write, two faces: refusal 5",
+        (Err(WriteRefusal::SpareLever), false) => "write: refusal 6",
+        (Err(WriteRefusal::SpareLever), true) => "write, two faces: refusal 6",
+    });
+    if !joint.is_two_faced() {
+        if written.is_ok() && joint.other != Face::default() {
+            tally.count("write: file, with something in the second face");
+        }
+        return;
+    }
+    let first_has_spare = has_spare_lever(&joint.first_of_two());
+    let second_has_spare = has_spare_lever(&joint.other);
+    match written {
+        Err(WriteRefusal::RowCount) if first_has_spare => {
+            tally.count("write, two faces: 3 of the second before 6 of the first");
+        }
+        Err(WriteRefusal::SpareLever) if second_has_spare && !first_has_spare => {
+            tally.count("write, two faces: refusal 6 of the second");
+        }
+        _ => {}
+    }
+}
+
+fn has_spare_lever(face: &Face) -> bool {
+    let rows = face.row_count().min(ROWS);
+    face.levers[rows..].iter().any(|&lever| lever != 0)
+}
+
+pub fn count_read(
+    bytes: &[u8],
+    kind: FileKind,
+    read: &Result<Joint, ReadRefusal>,
+    tally: &mut Tally,
+) {
+    tally.count(match (kind, read) {
+        (FileKind::New, Ok(joint)) if joint.is_two_faced() => "read, two faces: joint",
+        (FileKind::New, Ok(_)) => "read: joint",
+        (FileKind::New, Err(ReadRefusal::BytesEnd)) => "read: refusal 1",
+        (FileKind::New, Err(ReadRefusal::NumberForm)) => "read: refusal 2",
+        (FileKind::New, Err(ReadRefusal::RowCount)) => "read: refusal 3",
+        (FileKind::Old, Ok(joint)) if joint.is_two_faced() => "read, two faces, old kind: joint",
+        (FileKind::Old, Ok(_)) => "read, old kind: joint",
+        (FileKind::Old, Err(ReadRefusal::BytesEnd)) => "read, old kind: refusal 1",
+        (FileKind::Old, Err(ReadRefusal::NumberForm)) => "read, old kind: refusal 2",
+        (FileKind::Old, Err(ReadRefusal::RowCount)) => "read, old kind: refusal 3",
+    });
+    if let Err(refusal) = read {
+        if first_face_is_read(bytes, kind) {
+            count_read_of_second(kind, *refusal, tally);
+        }
+    }
+}
+
+/// Whether a second face follows a first that can be read.
+fn first_face_is_read(bytes: &[u8], kind: FileKind) -> bool {
+    let second_face = SECOND_FACE as u8;
+    let Some((count @ 17..=24, rest)) = bytes.split_first() else {
+        return false;
+    };
+    let alone = [&[count - second_face], rest].concat();
+    reference::read(&alone, kind).is_ok()
+}
+
+fn count_read_of_second(kind: FileKind, refusal: ReadRefusal, tally: &mut Tally) {
+    tally.count(match (kind, refusal) {
+        (FileKind::New, ReadRefusal::BytesEnd) => "read, two faces: refusal 1 in the second",
+        (FileKind::New, ReadRefusal::NumberForm) => "read, two faces: refusal 2 in the second",
+        (FileKind::New, ReadRefusal::RowCount) => "read, two faces: refusal 3 in the second",
+        (FileKind::Old, ReadRefusal::BytesEnd) => {
+            "read, two faces, old kind: refusal 1 in the second"
+        }
+        (FileKind::Old, ReadRefusal::NumberForm) => {
+            "read, two faces, old kind: refusal 2 in the second"
+        }
+        (FileKind::Old, ReadRefusal::RowCount) => {
+            "read, two faces, old kind: refusal 3 in the second"
+        }
+    });
+}
+
+// ---- Sheet
+
+pub fn count_sheet(bytes: &[u8], lines: &[u8], tally: &mut Tally) {
+    tally.count(if bytes.len() > LONGEST_INPUT {
+        "sheet: R 4"
+    } else if lines.is_empty() {
+        "sheet: nothing"
+    } else if lines.ends_with(b" R 1\n") || lines.ends_with(b" R 2\n") || lines.ends_with(b" R 3\n")
+    {
+        "sheet: ended by a read refusal"
+    } else {
+        "sheet: to the end of the input"
+    });
+    let numbers: Vec<&[u8]> = lines
+        .split(|&byte| byte == b'\n')
+        .filter_map(|line| line.split(|&byte| byte == b' ').next())
+        .collect();
+    if numbers.windows(2).any(|pair| pair[0] == pair[1]) {
+        tally.count("sheet: two lines of one joint");
+    }
+}
