@@ -7,10 +7,12 @@ mod words;
 use proved::{longest_sheet, FORCES, JOINT_WORDS, NEW_KIND, RESULT_WORDS};
 use reference::{FileKind, Joint, GROUPS, LONGEST_FILE, LONGEST_INPUT};
 use rounds::measure;
-use sample::{file_of, worked_joint, Random};
+use sample::{file_of, worked_joint, worked_two_faced_joint, Random};
 use std::hint::black_box;
 
 const SEED: u64 = 7;
+/// Of joints with two faces, so that those with one stay the same.
+const TWO_FACED_SEED: u64 = 8;
 /// Different inputs of each line.
 const INPUTS: usize = 512;
 
@@ -21,14 +23,31 @@ fn main() {
     println!();
     println!("| call | proved | plain Rust | ratio | plain, own types |");
     println!("|---|---:|---:|---:|---:|");
-    line("read, 1 to 8 rows", time_read(&mut random));
-    line("write, 1 to 8 rows", time_write(&mut random));
+    line("read, 1 to 8 rows", time_read(&mixed_joints(&mut random)));
+    line("write, 1 to 8 rows", time_write(&mixed_joints(&mut random)));
     line("allocate, 8 rows", time_allocate(&mut random));
-    line("work, 1 row", time_work(&mut random, 1));
-    line("work, 3 rows", time_work(&mut random, 3));
-    line("work, 8 rows", time_work(&mut random, 8));
+    for (call, rows) in [("work, 1 row", 1), ("work, 3 rows", 3), ("work, 8 rows", 8)] {
+        line(call, time_work(&alike_joints(&mut random, rows)));
+    }
     let input = full_input(&mut random);
     sheet_line(&input, time_sheet(&input));
+    two_faced_lines(&mut Random::new(TWO_FACED_SEED));
+}
+
+fn two_faced_lines(random: &mut Random) {
+    let mixed = mixed_two_faced_joints(random);
+    line("read, two faces of 1 to 8 rows", time_read(&mixed));
+    line("write, two faces of 1 to 8 rows", time_write(&mixed));
+    for (call, rows) in [
+        ("work, two faces of 1 row", 1),
+        ("work, two faces of 3 rows", 3),
+        ("work, two faces of 8 rows", 8),
+    ] {
+        let joints: Vec<Joint> = (0..INPUTS)
+            .map(|_| worked_two_faced_joint(random, [rows, rows]))
+            .collect();
+        line(call, time_work(&joints));
+    }
 }
 
 /// Times are of a run over all inputs.
@@ -56,8 +75,19 @@ fn mixed_joints(random: &mut Random) -> Vec<Joint> {
         .collect()
 }
 
-fn time_read(random: &mut Random) -> [f64; 3] {
-    let files: Vec<Vec<u8>> = mixed_joints(random).iter().map(file_of).collect();
+fn alike_joints(random: &mut Random, rows: u32) -> Vec<Joint> {
+    (0..INPUTS).map(|_| worked_joint(random, rows)).collect()
+}
+
+/// Every pair of row counts, as many of each.
+fn mixed_two_faced_joints(random: &mut Random) -> Vec<Joint> {
+    (0..INPUTS as u32)
+        .map(|input| worked_two_faced_joint(random, [input % 8 + 1, input / 8 % 8 + 1]))
+        .collect()
+}
+
+fn time_read(joints: &[Joint]) -> [f64; 3] {
+    let files: Vec<Vec<u8>> = joints.iter().map(file_of).collect();
     let mut proved_words = [0; JOINT_WORDS];
     let mut plain_words = [0; JOINT_WORDS];
     let mut next = 0;
@@ -93,8 +123,7 @@ fn time_read(random: &mut Random) -> [f64; 3] {
     ])
 }
 
-fn time_write(random: &mut Random) -> [f64; 3] {
-    let joints = mixed_joints(random);
+fn time_write(joints: &[Joint]) -> [f64; 3] {
     let joint_words: Vec<[u32; JOINT_WORDS]> = joints.iter().map(Joint::to_fields).collect();
     let mut proved_buffer = [0; LONGEST_FILE];
     let mut plain_buffer = [0; LONGEST_FILE];
@@ -123,7 +152,7 @@ fn time_write(random: &mut Random) -> [f64; 3] {
             }
         },
         &mut || {
-            for joint in &joints {
+            for joint in joints {
                 black_box(&reference::write(black_box(joint), &mut native_buffer));
                 black_box(&native_buffer);
             }
@@ -165,8 +194,7 @@ fn time_allocate(random: &mut Random) -> [f64; 3] {
     ])
 }
 
-fn time_work(random: &mut Random, rows: u32) -> [f64; 3] {
-    let joints: Vec<Joint> = (0..INPUTS).map(|_| worked_joint(random, rows)).collect();
+fn time_work(joints: &[Joint]) -> [f64; 3] {
     let joint_words: Vec<[u32; JOINT_WORDS]> = joints.iter().map(Joint::to_fields).collect();
     let mut proved_result = [0; RESULT_WORDS];
     let mut plain_result = [0; RESULT_WORDS];
@@ -184,7 +212,7 @@ fn time_work(random: &mut Random, rows: u32) -> [f64; 3] {
             }
         },
         &mut || {
-            for joint in &joints {
+            for joint in joints {
                 black_box(&reference::work(black_box(joint)));
             }
         },

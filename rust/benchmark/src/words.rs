@@ -1,7 +1,7 @@
 //! The plain calls over the same words and bytes as the proved ones. None is inlined, as the proved ones can't be.
 
-use proved::{FORCES, JOINT_WORDS, RESULT_WORDS};
-use reference::{FaceResult, FileKind, Joint};
+use proved::{FACE_WORDS, FORCES, JOINT_WORDS, PANEL, RESULT_WORDS};
+use reference::{FaceResult, FileKind, Joint, JointResult};
 
 #[inline(never)]
 pub fn read(file: &[u8], kind: FileKind, words: &mut [u32; JOINT_WORDS], next: &mut usize) -> u32 {
@@ -44,11 +44,23 @@ pub fn work(words: &[u32; JOINT_WORDS], result: &mut [u64; RESULT_WORDS]) -> u32
             put_result(&worked, result);
             0
         }
-        Err(refusal) => refusal.number() + 256 * refusal.field(),
+        Err(refusal) => refusal.number() + 256 * refusal.field() + 65536 * refusal.face,
     }
 }
 
-fn put_result(result: &FaceResult, words: &mut [u64; RESULT_WORDS]) {
+fn put_result(result: &JointResult, words: &mut [u64; RESULT_WORDS]) {
+    let (first, rest) = words.split_at_mut(FACE_WORDS);
+    put_face(&result.face, first);
+    match &result.other {
+        None => rest.fill(0),
+        Some(other) => {
+            put_face(&other.face, &mut rest[..FACE_WORDS]);
+            rest[PANEL - FACE_WORDS] = u64::from(other.panel_passes);
+        }
+    }
+}
+
+fn put_face(result: &FaceResult, words: &mut [u64]) {
     words[..8].copy_from_slice(&result.forces);
     words[8..].copy_from_slice(&[
         result.sum,
