@@ -55,12 +55,14 @@ pub fn read(bytes: &[u8], kind: FileKind) -> Result<(Joint, &[u8]), ReadRefusal>
     let (head, levers) = fields.split_at_mut(HEAD);
     let rest = read_face(bytes, rows_of_first, &mut head[..kind.head()], levers)?;
     head[AXIAL] = signed(head[AXIAL]) as u32;
-    let mut joint = Joint::one_faced(&fields);
-    if !joint.is_two_faced() {
-        return Ok((joint, rest));
+    if !RAISED_COUNTS.contains(&fields[0]) {
+        return Ok((Joint::one_faced(&fields), rest));
     }
     let (other, rest) = read_second_face(rest)?;
-    joint.other = other;
+    let joint = Joint {
+        other,
+        ..Joint::one_faced(&fields)
+    };
     Ok((joint, rest))
 }
 
