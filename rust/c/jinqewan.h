@@ -1,9 +1,9 @@
 /* The proved calls, for C. Link with libexports.a.
  *
- * A slice is a pointer with its count of elements. A joint is 66 words: its fields in order (docs/rules.md, 2.1) with eight levers, spare ones 0,
- * then the second face's fields 1, 2, 6, 7 and 14 to 29 with its eight levers. These last 28 words are looked at only where field 1 is 17
- * to 24, and jinqewan_read puts 0 there for a joint with one face. The axial force is its two's complement. Slices that a call reads and
- * slices that it writes don't overlap.
+ * A slice is a pointer with its count of elements. A joint is 66 words: its fields in order (docs/rules.md, 2.1) with eight levers, spare
+ * ones 0, then the second face's fields 1, 2, 6, 7 and 14 to 29 with its eight levers. These last 28 words are looked at only where field 1
+ * is 17 to 24, and jinqewan_read puts 0 there for a joint with one face. The axial force is its two's complement. Slices that a call reads
+ * and slices that it writes don't overlap.
  *
  * Each call but jinqewan_rest answers 0 where it did what it is for, and else one number that tells why not: the refusal's number
  * (JINQEWAN_NUMBER), for refusal 10 the field (JINQEWAN_FIELD) and, where jinqewan_work refuses a joint with two faces, the face
