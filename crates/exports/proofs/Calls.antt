@@ -8,10 +8,14 @@ use native.Mathlib.Omega.{arith}
 use borrow.Author.Tests.{le-leb, leb-true}
 use lib.Dec.{leb, eqb}
 use lib.ListN.{length, getD, take, drop, length-append, length-take, length-drop}
-use lib.Seq.{take-at, take-append-le, getD-append-add, length-take-le}
+use lib.Seq.{take-at, drop-at, take-append-le, getD-append-add, length-take-le}
 use Rattle.arithmetic.specs.Checks.{Check, firstFailing}
 use Rattle.arithmetic.proofs.Checks.{one-after-another}
 use Rattle.buffers.specs.Put.{atFront}
+use Rattle.joint.specs.Faces.{twoFaced, firstFace}
+use Rattle.joint.specs.declared.Bolts.{Bolts}
+use Rattle.joint.specs.declared.Column.{Column}
+use Rattle.joint.specs.declared.Face.{Face}
 use Rattle.joint.specs.declared.Joint.{Joint}
 use Rattle.joint.specs.declared.FieldCheck.{FieldCheck}
 use Rattle.joint.specs.declared.FieldCheck.the-variants.{AllInRange, Outside}
@@ -19,9 +23,9 @@ use Rattle.joint.specs.Fields.{leverChecks, fixedChecks, fieldChecks, fieldChec
 use Rattle.numbers.specs.Parse.{Parse, got, refused}
 use Rattle.numbers.specs.Run.{storedAll}
 use Rattle.numbers.proofs.Sizes.{groups-positive}
-use Rattle.fields.specs.Fields.{fieldCount, jointOf, fieldsOf}
+use Rattle.fields.specs.Fields.{fieldCount, ownCount, jointOf, fieldsOf}
 use Rattle.jointfile.specs.File.{readJoint, answer, reading, leftOf, restOf}
-use Rattle.jointfile.specs.Write.{fileOf, file, Writing, turnedDown, writing}
+use Rattle.jointfile.specs.Write.{partOf, file, Writing, turnedDown, writing}
 use Rattle.jointfile.specs.Answers.{writtenMeaning}
 use Rattle.jointfile.specs.declared.FileKind.{FileKind}
 use Rattle.jointfile.specs.declared.FileKind.the-variants.{New}
@@ -34,15 +38,17 @@ use Rattle.outcome.specs.declared.FaceResult.{FaceResult}
 use Rattle.outcome.specs.declared.Outcome.{Outcome}
 use Rattle.outcome.specs.declared.Refusal.{Refusal}
 use Rattle.strength.specs.Bolt.{boltStrengths}
-use Rattle.work.specs.Work.{refusalsAfter10, refusedOutcome, workedFace, workedBy, worked}
+use Rattle.connection.specs.Connection.{refusedOutcome, refusedFace, refusalsAfter10, workedFace, workedBy, workedConnection}
+use Rattle.connection.specs.Demand.{Demand3For}
+use Rattle.work.specs.Work.{ifTaken, bothTaken, workedSecond, workedFaces, worked}
 use Rattle.work.specs.Demand.{Demand3Of}
 use Rattle.printer.specs.Sheet.{sheetOf}
 use Rattle.printer.specs.Answers.{printing, printedMeaning}
 use Rattle.printer.specs.declared.Printed.{Printed}
-use Rattle.words.specs.Words.{jointWordCount, leversOfWords, jointOfWords}
-use Rattle.words.specs.Results.{flag, figureWords, resultWords}
+use Rattle.words.specs.Words.{firstWordCount, jointWordCount, wordsFrom, jointOfWords}
+use Rattle.words.specs.Results.{faceWordCount, flag, figureWords, resultWords, panelFlag, outcomeWords}
 use Rattle.exports.specs.Answers.{answers}
-use Rattle.exports.specs.Calls.{filePut, writingInto, Demand3OfWords, sheetAnswer, sheetingInto}
+use Rattle.exports.specs.Calls.{filePut, writingInto, Demand3OfFace, Demand3OfWords, sheetAnswer, sheetingInto}
 use Rattle.exports.proofs.Answers.{taken, refused as answer-refused}
 
 -- ---- Rest
@@ -87,8 +93,8 @@ by-number P low high passed failed ((number, test) ∷ checks) all none some =
 -- ---- Write: whatever is refused, the number isn't 0 and the buffer is as it was
 
 some-file : (joint : Joint) → 0 < length (file New joint)
-unfolding fileOf fieldsOf storedAll
-some-file joint = rw length-append (omega (arith, groups-positive 4 (joint .face .rows)))
+unfolding file partOf fieldsOf storedAll
+some-file joint = rw (length-append, length-append, length-append) (omega (arith, groups-positive 4 (joint .face .rows)))
 
 pub record Untouched (buffer exit : List ℕ) (number : ℕ) : Type 0 where
   pub some : number ≡ 0 → ⊥
@@ -115,7 +121,7 @@ module _ (fields buffer : List ℕ) (size : ℕ) (room : jointWordCount ≤ leng
   pub write-put : {count : ℕ} → written ≡ Length count → answers 0 (record { bytes = exit; size = count }) ≡ writingInto fields buffer size
   write-put is =
       let file-put = case-means is in
-      taken _ 0 _ _ (le-leb jointWordCount (length fields) room) (sym (ap (λ (w : Writing). w .refusal) file-put)) (ap filePut file-put)
+      taken _ 0 0 _ _ (le-leb jointWordCount (length fields) room) (sym (ap (λ (w : Writing). w .refusal) file-put)) (ap filePut file-put)
 
   pub write-refused : {number : ℕ} → written ≡ Refused number
       → answers number (record { bytes = exit; size = size }) ≡ writingInto fields buffer size
@@ -125,52 +131,85 @@ module _ (fields buffer : List ℕ) (size : ℕ) (room : jointWordCount ≤ leng
       ap (λ (bytes : List ℕ). answers number (record { bytes = bytes; size = size })) (untouched .kept)
       ∙ answer-refused _ _ _ (le-leb jointWordCount (length fields) room) (ap (λ (w : Writing). w .refusal) down) (untouched .some)
 
--- ---- Work: a refusal has a number up to 15, and a field up to that of the last lever
+-- ---- Work: a refusal has a number up to 15, a field up to that of the last lever, and a face up to 2
 
 pub record Small (refusal : Refusal) : Type 0 where
   pub number : refusal .number ≤ 15
-  pub field : refusal .field ≤ jointWordCount
+  pub field : refusal .field ≤ firstWordCount
+  pub face : refusal .face ≤ 2
 
-levers-within : (n row : ℕ) (levers : List ℕ) → row + length levers ≤ 8 → allWithin 1 jointWordCount (leverChecks n row levers) ≡ true
+levers-within : (n row : ℕ) (levers : List ℕ) → row + length levers ≤ 8 → allWithin 1 firstWordCount (leverChecks n row levers) ≡ true
 unfolding leverChecks allWithin
 levers-within n row [] few = refl
 levers-within n row (h ∷ hs) few =
-    rw (le-leb 1 (31 + row) (omega arith), le-leb (31 + row) jointWordCount (omega arith)) (levers-within n (suc row) hs (omega arith))
+    rw (le-leb 1 (31 + row) (omega arith), le-leb (31 + row) firstWordCount (omega arith)) (levers-within n (suc row) hs (omega arith))
 
-field-small : (joint : Joint) → length (joint .face .levers) ≡ 8
-    → fieldOf (fieldCheck (joint .column) (joint .bolts) (joint .face)) ≤ jointWordCount
-unfolding fieldCheck fieldChecks fixedChecks allWithin
-field-small joint eight =
-    let levers = leverChecks (joint .face .rows) 0 (joint .face .levers) in
-    rw (one-after-another AllInRange Outside (fixedChecks (joint .column) (joint .bolts) (joint .face)) levers)
-    (by-number (λ (f : FieldCheck). fieldOf f ≤ jointWordCount) 1 jointWordCount _ Outside _ refl
-    (by-number (λ (f : FieldCheck). fieldOf f ≤ jointWordCount) 1 jointWordCount AllInRange Outside levers
-    (levers-within (joint .face .rows) 0 (joint .face .levers) (omega arith)) (omega arith) (λ number low high. high))
-    (λ number low high. high))
+-- of one face, worked alone
+module _ (panelCounts : Bool) (column : Column) (bolts : Bolts) (face : Face) where
+  field-small : length (face .levers) ≡ 8 → fieldOf (fieldCheck column bolts face) ≤ firstWordCount
+  unfolding fieldCheck fieldChecks fixedChecks allWithin
+  field-small eight =
+      let levers = leverChecks (face .rows) 0 (face .levers) in
+      rw (one-after-another AllInRange Outside (fixedChecks column bolts face) levers)
+      (by-number (λ (f : FieldCheck). fieldOf f ≤ firstWordCount) 1 firstWordCount _ Outside _ refl
+      (by-number (λ (f : FieldCheck). fieldOf f ≤ firstWordCount) 1 firstWordCount AllInRange Outside levers
+      (levers-within (face .rows) 0 (face .levers) (omega arith)) (omega arith) (λ number low high. high))
+      (λ number low high. high))
 
-face-small : (joint : Joint)
-    → Small (workedFace (joint .column) (boltStrengths (joint .bolts)) (joint .face) .refusal)
-unfolding workedFace refusalsAfter10 allWithin
-face-small joint =
-    by-number (λ (o : Outcome). Small (o .refusal)) 11 15 _ (λ number. refusedOutcome number 0) _ refl
-    (record { number = omega arith; field = omega arith }) (λ number low high. record { number = high; field = omega arith })
+  face-small : Small (workedFace panelCounts column (boltStrengths bolts) face .refusal)
+  unfolding workedFace refusalsAfter10 allWithin
+  face-small =
+      by-number (λ (o : Outcome). Small (o .refusal)) 11 15 _ refusedFace _ refl
+      (record { number = omega arith; field = omega arith; face = omega arith })
+      (λ number low high. record { number = high; field = omega arith; face = omega arith })
 
-pub work-small : (joint : Joint) → length (joint .face .levers) ≡ 8 → Small (worked joint .refusal)
-unfolding worked
-work-small joint eight = go (fieldCheck (joint .column) (joint .bolts) (joint .face)) (field-small joint eight)
+  connection-small : length (face .levers) ≡ 8 → Small (workedConnection panelCounts column bolts face .refusal)
+  unfolding workedConnection
+  connection-small eight = go (fieldCheck column bolts face) (field-small eight)
+    where
+      go : (found : FieldCheck) → fieldOf found ≤ firstWordCount
+          → Small (workedBy found (workedFace panelCounts column (boltStrengths bolts) face) .refusal)
+      go AllInRange small = face-small
+      go (Outside field) small = record { number = omega arith; field = small; face = omega arith }
+
+-- of a face and what comes after it
+if-small : (face : ℕ) (outcome : Outcome) (next : FaceResult → Outcome) → face ≤ 2 → Small (outcome .refusal)
+    → ((result : FaceResult) → Small (next result .refusal)) → Small (ifTaken face outcome next .refusal)
+if-small face outcome next few small after = go (eqb (outcome .refusal .number) 0)
   where
-    go : (found : FieldCheck) → fieldOf found ≤ jointWordCount
-        → Small (workedBy found (workedFace (joint .column) (boltStrengths (joint .bolts)) (joint .face)) .refusal)
-    go AllInRange small = face-small joint
-    go (Outside field) small = record { number = omega arith; field = small }
+    go : (t : Bool)
+        → Small (cond t (next (outcome .result)) (refusedOutcome (outcome .refusal .number) (outcome .refusal .field) face) .refusal)
+    go true = after (outcome .result)
+    go false = record { number = small .number; field = small .field; face = few }
 
-words-have-eight-levers : (fields : List ℕ) → jointWordCount ≤ length fields → length (jointOfWords fields .face .levers) ≡ 8
-unfolding jointOf leversOfWords
-words-have-eight-levers fields room = length-take-le 8 (drop fieldCount fields) (omega (arith, length-drop fieldCount fields))
+work-small : (joint : Joint) → length (joint .face .levers) ≡ 8 → length (joint .other .levers) ≡ 8 → Small (worked joint .refusal)
+unfolding worked workedFaces firstFace
+work-small joint eight eight′ = go (twoFaced (joint .face .rows))
+  where
+    first : Face
+    first = firstFace (joint .face)
+
+    go : (t : Bool)
+        → Small (cond t (workedFaces (joint .column) (joint .bolts) first (joint .other))
+        (workedConnection true (joint .column) (joint .bolts) first) .refusal)
+    go true =
+        if-small 1 (workedConnection false (joint .column) (joint .bolts) first) (workedSecond (joint .column) (joint .bolts) first (joint .other)) (omega arith)
+        (connection-small false (joint .column) (joint .bolts) first eight)
+        (λ result. if-small 2 (workedConnection false (joint .column) (joint .bolts) (joint .other)) (bothTaken (joint .column) first (joint .other) result) (omega arith)
+        (connection-small false (joint .column) (joint .bolts) (joint .other) eight′)
+        (λ other. record { number = omega arith; field = omega arith; face = omega arith }))
+    go false = connection-small true (joint .column) (joint .bolts) first eight
+
+eight-words : (from : ℕ) (fields : List ℕ) → from + 8 ≤ length fields → length (wordsFrom from 8 fields) ≡ 8
+eight-words from fields room = length-take-le 8 (drop from fields) (omega (arith, length-drop from fields))
 
 pub refusal-small : (fields : List ℕ) → jointWordCount ≤ length fields → {joint : Joint} {outcome : Outcome} → joint ≡ jointOfWords fields
     → outcome ≡ worked joint → Small (outcome .refusal)
-refusal-small fields room same is = rw (is, same) (work-small (jointOfWords fields) (words-have-eight-levers fields room))
+unfolding jointOf
+refusal-small fields room same is =
+    rw (is, same)
+    (work-small (jointOfWords fields) (eight-words fieldCount fields (omega (arith, room)))
+    (eight-words (firstWordCount + ownCount) fields (omega (arith, room))))
 
 -- ---- Sheet
 
@@ -189,15 +228,13 @@ best-front limit count eight forces size best =
     let few : count ≤ length eight = omega (arith, best .competes .rows, length-take count eight) in
     rw (take-append-le count eight (drop (length eight) forces) few) best
 
-module _ (result : FaceResult) (words : List ℕ) (eight : length (result .forces) ≡ 8) where
-  abbrev rest : List ℕ
-  rest = drop (length (resultWords result)) words
-
-  forces-first : take 8 (atFront (resultWords result) words) ≡ result .forces
+-- a face's words, with any after them
+module _ (result : FaceResult) (rest : List ℕ) (eight : length (result .forces) ≡ 8) where
+  forces-first : take 8 (resultWords result ++ rest) ≡ result .forces
   forces-first =
       rw (append-assoc (result .forces) (figureWords result) rest) (take-at (result .forces) (figureWords result ++ rest) 8 eight)
 
-  bending-word : getD (atFront (resultWords result) words) 13 0 ≡ flag (result .verdicts .bending)
+  bending-word : getD (resultWords result ++ rest) 13 0 ≡ flag (result .verdicts .bending)
   unfolding figureWords
   bending-word =
       let place : 13 ≡ length (result .forces) + 5 = omega arith in
@@ -208,17 +245,47 @@ flag-back : (passes : Bool) → eqb (flag passes) 1 ≡ passes
 flag-back true = refl
 flag-back false = refl
 
+-- demand 3 of a face is demand 3 of its words, with any after them
+of-words : (panelCounts : Bool) (joint : Joint) (face : Face) (result : FaceResult) (rest : List ℕ) → length (result .forces) ≡ 8
+    → Demand3For panelCounts (joint .column) (joint .bolts) face result
+    → Demand3OfFace panelCounts joint face (resultWords result ++ rest)
+of-words panelCounts joint face result rest eight demand =
+    rw (forces-first result rest eight, bending-word result rest eight, flag-back (result .verdicts .bending)) demand
+
+module _ (words : List ℕ) (outcome : Outcome) where
+  -- what follows the second face's words, and the first's
+  after-second : List ℕ
+  after-second = (panelFlag (outcome .panel) ∷ []) ++ drop (length (outcomeWords outcome)) words
+
+  first-words : atFront (outcomeWords outcome) words
+      ≡ resultWords (outcome .result) ++ (resultWords (outcome .other) ++ after-second)
+  unfolding after-second
+  first-words =
+      let first = resultWords (outcome .result) in
+      let second = resultWords (outcome .other) in
+      append-assoc (first ++ second) (panelFlag (outcome .panel) ∷ []) (drop (length (outcomeWords outcome)) words)
+      ∙ append-assoc first second after-second
+
+  second-words : length (outcome .result .forces) ≡ 8
+      → drop faceWordCount (atFront (outcomeWords outcome) words) ≡ resultWords (outcome .other) ++ after-second
+  unfolding figureWords
+  second-words eight =
+      ap (drop faceWordCount) first-words
+      ∙ drop-at (resultWords (outcome .result)) (resultWords (outcome .other) ++ after-second) faceWordCount
+      (rw (length-append (outcome .result .forces)) (omega (arith, eight)))
+
 -- demand 3 of the words at exit
-pub demand-words : (fields words : List ℕ) {joint : Joint} (outcome : Outcome) {exit : List ℕ} → joint ≡ jointOfWords fields
-    → length (outcome .result .forces) ≡ 8 → exit ≡ atFront (resultWords (outcome .result)) words → Demand3Of joint outcome
-    → Demand3OfWords fields exit
-demand-words fields words outcome same eight put demand =
-    let result = outcome .result in
-    rw (
-      put,
-      forces-first result words eight,
-      bending-word result words eight,
-      flag-back (result .verdicts .bending),
-      ← same,
-    )
-    demand
+pub demand-words : (words : List ℕ) (joint : Joint) (outcome : Outcome) → length (outcome .result .forces) ≡ 8
+    → length (outcome .other .forces) ≡ 8 → Demand3Of joint outcome → Demand3OfWords joint (atFront (outcomeWords outcome) words)
+demand-words words joint outcome eight eight′ demand =
+    let first = firstFace (joint .face) in
+    let rest = resultWords (outcome .other) ++ after-second words outcome in
+    record {
+      one-face = λ alone.
+          rw (first-words words outcome) (of-words true joint first (outcome .result) rest eight (demand .one-face alone));
+      first-of-two = λ two.
+          rw (first-words words outcome) (of-words false joint first (outcome .result) rest eight (demand .two-faces two .of-first));
+      second-of-two = λ two.
+          rw (second-words words outcome eight)
+          (of-words false joint (joint .other) (outcome .other) (after-second words outcome) eight′ (demand .two-faces two .of-second));
+    }

@@ -1,10 +1,14 @@
 -- Each exported call: which slices are long enough, which refusal is answered, and what is put where. Assumes nothing.
 use Prim.Native.Nat.{ℕ}
 use mathlib.Core.List.{List}
-use mathlib.Core.Bool.{cond, _&&_}
+use mathlib.Core.Path.{_≡_}
+use mathlib.Core.Bool.{Bool, true, false, cond, _&&_}
 use lib.Dec.{leb, eqb}
-use lib.ListN.{length, getD, take}
+use lib.ListN.{length, getD, take, drop}
 use Rattle.buffers.specs.Put.{atFront}
+use Rattle.joint.specs.Faces.{twoFaced, firstFace}
+use Rattle.joint.specs.declared.Face.{Face}
+use Rattle.joint.specs.declared.Joint.{Joint}
 use Rattle.allocation.specs.Allocation.{allocated}
 use Rattle.jointfile.specs.File.{reading}
 use Rattle.jointfile.specs.Write.{Writing, writing}
@@ -12,12 +16,12 @@ use Rattle.jointfile.specs.declared.FileKind.{FileKind}
 use Rattle.jointfile.specs.declared.FileKind.the-variants.{Old, New}
 use Rattle.jointfile.specs.declared.Reading.{Reading}
 use Rattle.strength.specs.Bolt.{boltStrengths}
+use Rattle.connection.specs.Demand.{Demand3}
 use Rattle.work.specs.Work.{worked}
-use Rattle.work.specs.Demand.{Demand3}
 use Rattle.printer.specs.Sheet.{sheetOf}
 use Rattle.printer.specs.Answers.{Printing, whole, noRoom, printing}
 use Rattle.words.specs.Words.{jointWordCount, jointOfWords, wordsOf}
-use Rattle.words.specs.Results.{resultWordCount, resultWords}
+use Rattle.words.specs.Results.{faceWordCount, outcomeWordCount, outcomeWords}
 use Rattle.exports.specs.Answers.{Answered, answers, answered}
 
 -- a joint's words and the place after it
@@ -33,7 +37,7 @@ pub record BufferFront : Type 0 where
 abbrev pub allocating : (count : ℕ) (limits forces : List ℕ) → Answered (List ℕ)
 allocating count limits forces =
     let allocation = allocated count limits in
-    answered (leb 8 (length forces)) (allocation .refusal) 0 (atFront (allocation .forces) forces) forces
+    answered (leb 8 (length forces)) (allocation .refusal) 0 0 (atFront (allocation .forces) forces) forces
 
 -- rule 13.5: 1 is the old kind of file, and any other number the new one
 unfoldable pub kindOf : ℕ → FileKind
@@ -45,7 +49,7 @@ jointPut read words = record { words = atFront (wordsOf (read .joint)) words; ne
 abbrev pub readingInto : (bytes : List ℕ) (kind : ℕ) (words : List ℕ) (next : ℕ) → Answered JointPlace
 readingInto bytes kind words next =
     let read = reading (kindOf kind) bytes in
-    answered (leb jointWordCount (length words)) (read .refusal) 0 (jointPut read words) (record { words = words; next = next })
+    answered (leb jointWordCount (length words)) (read .refusal) 0 0 (jointPut read words) (record { words = words; next = next })
 
 abbrev pub filePut : Writing → BufferFront
 filePut written = record { bytes = written .buffer; size = written .size }
@@ -53,19 +57,25 @@ filePut written = record { bytes = written .buffer; size = written .size }
 abbrev pub writingInto : (fields buffer : List ℕ) (size : ℕ) → Answered BufferFront
 writingInto fields buffer size =
     let written = writing (jointOfWords fields) buffer in
-    answered (leb jointWordCount (length fields)) (written .refusal) 0 (filePut written) (record { bytes = buffer; size = size })
+    answered (leb jointWordCount (length fields)) (written .refusal) 0 0 (filePut written) (record { bytes = buffer; size = size })
 
 abbrev pub workingInto : (fields words : List ℕ) → Answered (List ℕ)
 workingInto fields words =
     let outcome = worked (jointOfWords fields) in
-    answered (leb jointWordCount (length fields) && leb resultWordCount (length words)) (outcome .refusal .number) (outcome .refusal .field)
-    (atFront (resultWords (outcome .result)) words) words
+    let refusal = outcome .refusal in
+    answered (leb jointWordCount (length fields) && leb outcomeWordCount (length words))
+    (refusal .number) (refusal .field) (refusal .face) (atFront (outcomeWords outcome) words) words
 
--- Demand 3 of the words at exit: the first eight are the answer's places for forces, and the fourteenth is its verdict on bending.
-abbrev pub Demand3OfWords : (fields words : List ℕ) → Type 0
-Demand3OfWords fields words =
-    let joint = jointOfWords fields in
-    Demand3 (joint .column) (boltStrengths (joint .bolts)) (joint .face) (take 8 words) (eqb (getD words 13 0) 1)
+-- Demand 3 of the words of a face: the first eight are its places for forces, and the fourteenth is its verdict on bending.
+abbrev pub Demand3OfFace : (panelCounts : Bool) → Joint → Face → (words : List ℕ) → Type 0
+Demand3OfFace panelCounts joint face words =
+    Demand3 panelCounts (joint .column) (boltStrengths (joint .bolts)) face (take 8 words) (eqb (getD words 13 0) 1)
+
+-- Demand 3 of the words at exit: of one face, or of two, the second's after the first's.
+pub record Demand3OfWords (joint : Joint) (words : List ℕ) : Type 0 where
+  pub one-face : twoFaced (joint .face .rows) ≡ false → Demand3OfFace true joint (firstFace (joint .face)) words
+  pub first-of-two : twoFaced (joint .face .rows) ≡ true → Demand3OfFace false joint (firstFace (joint .face)) words
+  pub second-of-two : twoFaced (joint .face .rows) ≡ true → Demand3OfFace false joint (joint .other) (drop faceWordCount words)
 
 -- rule 13.1: 101 says that there is no room for all lines
 abbrev pub sheetAnswer : (size : ℕ) → Printing → Answered BufferFront

@@ -1,9 +1,9 @@
 // The calls as C and Rust see them: over numbers and lent slices. A joint is `JOINT_WORDS` words of 32 bits, its fields in file
-// order and all eight levers; N is its two's complement. A face's result is `RESULT_WORDS` words of 64 bits. A kind of file is a number: 1
-// is the old one, and any other number the new one.
+// order and all eight levers, and those of a second face; N is its two's complement. A result is `OUTCOME_WORDS` words of 64 bits, face by
+// face. A kind of file is a number: 1 is the old one, and any other number the new one.
 //
-// An answer tells all of a refusal in its parts: its number in the lowest 8 bits, and the field, for 10, times 256. 0 is no
-// refusal; 100 says that a lent slice is too short to hold a joint or a result, and 101, of the sheet alone, that the output has no room
+// An answer tells all of a refusal in its parts: its number in the lowest 8 bits, the field, for 10, times 256, and the face, of a joint
+// that has two, times 65536. 0 is no refusal; 100 says that a lent slice is too short to hold a joint or a result, and 101, of the sheet alone, that the output has no room
 // for all lines. Whatever the answer is but 0, every slice and place is as it was. The sheet's refusals are its lines: they are printed,
 // `R 4` too, and answered 0.
 ghost use mathlib.Core.Path.{_≡_};
@@ -11,6 +11,7 @@ ghost use lib.ListN.{take};
 ghost use Rattle.jointfile.specs.File.{reading};
 ghost use Rattle.sharing.specs.Groups.{listed};
 ghost use Rattle.sharing.specs.Best.{Best};
+ghost use Rattle.words.specs.Words.{jointOfWords};
 ghost use Rattle.exports.specs.Answers.{answers};
 ghost use Rattle.exports.specs.Calls.{allocating, kindOf, readingInto, writingInto, workingInto};
 ghost use Rattle.exports.specs.Calls.{Demand3OfWords, sheetingInto};
@@ -18,7 +19,7 @@ use jointfile::FileKind;
 use jointfile::Written;
 use printer::Printed;
 use words::joints::JOINT_WORDS;
-use words::results::RESULT_WORDS;
+use words::results::OUTCOME_WORDS;
 
 // The number of the old kind of file.
 const OLD_KIND: u32 = 1;
@@ -113,21 +114,20 @@ pub extern "C" fn jinqewan_write(fields: &[u32], buffer: &mut [u8], length: &mut
 #[no_mangle]
 pub extern "C" fn jinqewan_work(fields: &[u32], result: &mut [u64]) -> u32
     ensures equals { λ r. ⌜ answers r (now (result .exit)) ≡ workingInto (now (fields .entry)) (now (result .entry)) ⌝ }
-    ensures demand { λ r. ⌜ (r ≡ 0 → Demand3OfWords (now (fields .entry)) (now (result .exit))) ⌝ }
+    ensures demand { λ r. ⌜ (r ≡ 0 → Demand3OfWords (jointOfWords (now (fields .entry))) (now (result .exit))) ⌝ }
 {
     if fields.len() < JOINT_WORDS {
         return SHORT;
     }
-    if result.len() < RESULT_WORDS {
+    if result.len() < OUTCOME_WORDS {
         return SHORT;
     }
     let worked = work::work(words::joints::joint_of(fields));
     let refusal = worked.refusal;
     if refusal.number != 0 {
-        return refusal.number + 256 * refusal.field;
+        return refusal.number + 256 * refusal.field + 65536 * refusal.face;
     }
-    let face = worked.result;
-    words::results::put_result(face, result);
+    words::results::put_outcome(worked, result);
     0
 }
 

@@ -31,7 +31,7 @@ shared-out c = c .before .before
 -- ---- the needs
 
 returns : tie.Need-returns
-returns c = (too-short _ _ _ _ (lt-leb 8 _ (c .if1 .taken)), λ none. absurd (omega (arith, none)))
+returns c = (too-short _ _ _ _ _ (lt-leb 8 _ (c .if1 .taken)), λ none. absurd (omega (arith, none)))
 
 allocate-requires : tie.Need-allocate-requires
 allocate-requires c κs = search needs
@@ -69,7 +69,7 @@ returns-3 c =
     let call = shared-out (put .before) .before .before in
     let args = begin call .args in
     let forces = now (args .forces) in (
-      taken _ 0 _ _ (le-leb 8 _ (long-enough call .if1 .left)) (sym (same-refusal call) ∙ none)
+      taken _ 0 0 _ _ (le-leb 8 _ (long-enough call .if1 .left)) (sym (same-refusal call) ∙ none)
           (front put ∙ ap (λ (a : Allocation). atFront (a .forces) forces) (call .allocate .ensures .0)),
       λ zero. rw (front put)
           (best-front _ (args .count) (call .allocate .result .forces) forces (put .put-eight-u64 .ensures .0)

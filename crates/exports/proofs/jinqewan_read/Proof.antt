@@ -30,7 +30,7 @@ was-read c = c .before .before
 -- ---- the needs
 
 returns : tie.Need-returns
-returns c = too-short _ _ _ _ (lt-leb jointWordCount _ (c .if1 .taken))
+returns c = too-short _ _ _ _ _ (lt-leb jointWordCount _ (c .if1 .taken))
 
 kind-of-requires : tie.Need-kind-of-requires
 kind-of-requires c κs = search needs
@@ -65,7 +65,7 @@ returns-3 c =
     let words-put : _≡_ {A = JointPlace} (record { words = put .put-joint .last .1 .0; next = call .read .result .next })
     (jointPut (call .read .result) words) =
     λ i. record { words = put .put-joint .ensures i; next = call .read .result .next } in
-    taken _ 0 _ _ (le-leb jointWordCount _ (long-enough call .if1 .left)) (sym (same-refusal call) ∙ was-read put .if2 .left)
+    taken _ 0 0 _ _ (le-leb jointWordCount _ (long-enough call .if1 .left)) (sym (same-refusal call) ∙ was-read put .if2 .left)
     (words-put ∙ ap (λ (r : Reading). jointPut r words) (same-reading call))
 
 pub jinqewan-read-spec : {M : Type 1} → statement M

@@ -11,7 +11,7 @@ use Rattle.buffers.specs.Put.{atFront}
 use Rattle.outcome.specs.declared.Outcome.{Outcome}
 use Rattle.work.specs.Work.{worked}
 use Rattle.words.specs.Words.{jointWordCount, jointOfWords}
-use Rattle.words.specs.Results.{resultWordCount, resultWords}
+use Rattle.words.specs.Results.{outcomeWordCount, outcomeWords}
 use Rattle.exports.specs.Answers.{answerNumber}
 use Rattle.exports.proofs.Answers.{too-short, turned-down, taken}
 use Rattle.exports.proofs.Calls.{Small, refusal-small, demand-words}
@@ -39,17 +39,17 @@ worked-at c = c .before .before
 abbrev refused-at : tie.After-struct-known2 → tie.After-work
 refused-at c = worked-at (c .before .before)
 
-abbrev passed : tie.After-put-result → tie.Else3
-passed c = c .before .before .before
+abbrev passed : tie.After-put-outcome → tie.Else3
+passed c = c .before .before
 
 -- ---- what `work` answered
 
 long-both : (c : tie.After-work)
     → let args = begin c .args in
-    (leb jointWordCount (length (now (args .fields))) && leb resultWordCount (length (now (args .result)))) ≡ true
+    (leb jointWordCount (length (now (args .fields))) && leb outcomeWordCount (length (now (args .result)))) ≡ true
 long-both c =
     let second = long-enough c in
-    simp (le-leb jointWordCount _ (words-enough second .if1 .left), le-leb resultWordCount _ (second .if2 .left))
+    simp (le-leb jointWordCount _ (words-enough second .if1 .left), le-leb outcomeWordCount _ (second .if2 .left))
 
 same-outcome : (c : tie.After-work) → c .work .result ≡ worked (jointOfWords (now (begin c .args .fields)))
 same-outcome c = c .work .ensures .0 ∙ ap worked (c .before .joint-of .ensures)
@@ -62,11 +62,11 @@ small c =
 -- ---- the needs
 
 returns : tie.Need-returns
-returns c = (too-short _ _ _ _ (simp (lt-leb jointWordCount _ (c .if1 .taken))), λ none. absurd (omega (arith, none)))
+returns c = (too-short _ _ _ _ _ (simp (lt-leb jointWordCount _ (c .if1 .taken))), λ none. absurd (omega (arith, none)))
 
 returns-2 : tie.Need-returns-2
 returns-2 c = (
-  too-short _ _ _ _ (simp (le-leb jointWordCount _ (c .before .if1 .left), lt-leb resultWordCount _ (c .if2 .taken))),
+  too-short _ _ _ _ _ (simp (le-leb jointWordCount _ (c .before .if1 .left), lt-leb outcomeWordCount _ (c .if2 .taken))),
   λ none. absurd (omega (arith, none)),
 )
 
@@ -84,18 +84,26 @@ add-result c =
     let parts = small (refused-at (c .before)) in
     omega (arith, parts .number, parts .field)
 
+mul-result-2 : tie.Need-mul-result-2
+mul-result-2 c = omega (arith, small (refused-at (c .before .before)) .face)
+
+add-result-2 : tie.Need-add-result-2
+add-result-2 c =
+    let parts = small (refused-at (c .before .before)) in
+    omega (arith, parts .number, parts .field, parts .face)
+
 returns-3 : tie.Need-returns-3
 returns-3 c =
-    let call = refused-at (c .before) in
-    let some = c .before .before .if3 .taken in
+    let call = refused-at (c .before .before) in
+    let some = c .before .before .before .if3 .taken in
     let same = same-outcome call in (
-      turned-down _ _ _ _ (long-both call) (λ none. some (ap (λ (o : Outcome). o .refusal .number) same ∙ none))
-          (ap (λ (o : Outcome). answerNumber (o .refusal .number) (o .refusal .field)) same),
+      turned-down _ _ _ _ _ (long-both call) (λ none. some (ap (λ (o : Outcome). o .refusal .number) same ∙ none))
+          (ap (λ (o : Outcome). answerNumber (o .refusal .number) (o .refusal .field) (o .refusal .face)) same),
       λ none. absurd (some (omega (arith, none))),
     )
 
-put-result-requires : tie.Need-put-result-requires
-put-result-requires c κs = search needs
+put-outcome-requires : tie.Need-put-outcome-requires
+put-outcome-requires c κs = search needs
 
 same-length : tie.Need-same-length
 same-length c = search needs
@@ -107,11 +115,13 @@ returns-4 c =
     let call = worked-at (passed put .before) in
     let same = same-outcome call in
     let words = now (begin call .args .result) in
-    let front = put .put-result .ensures .1 in (
-      taken _ _ _ _ (long-both call) (sym (ap (λ (o : Outcome). o .refusal .number) same) ∙ none)
-          (front ∙ ap (λ (o : Outcome). atFront (resultWords (o .result)) words) same),
-      λ zero. demand-words (now (begin call .args .fields)) words (call .work .result) (call .before .joint-of .ensures)
-          (put .put-result .ensures .0) front (call .work .ensures .1 none),
+    let front = put .put-outcome .ensures .1 in
+    let own = call .before .joint-of .ensures in (
+      taken _ _ _ _ _ (long-both call) (sym (ap (λ (o : Outcome). o .refusal .number) same) ∙ none)
+          (front ∙ ap (λ (o : Outcome). atFront (outcomeWords o) words) same),
+      (λ zero. rw (front, ← own)
+          (demand-words words _ (call .work .result) (put .put-outcome .ensures .0 .0) (put .put-outcome .ensures .0 .1)
+          (call .work .ensures .1 none))),
     )
 
 pub jinqewan-work-spec : {M : Type 1} → statement M
@@ -124,7 +134,9 @@ jinqewan-work-spec =
     work-requires
     mul-result
     add-result
+    mul-result-2
+    add-result-2
     returns-3
-    put-result-requires
+    put-outcome-requires
     same-length
     returns-4)

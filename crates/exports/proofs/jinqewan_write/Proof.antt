@@ -1,6 +1,7 @@
 -- `jinqewan_write` meets its contract: the slice is too short for a joint, or each case of `write`'s answer says what the definition does.
 -- Assumes nothing.
 use borrow.Author.Tests.{lt-leb}
+use denote.Ref.{now}
 use Rattle.words.specs.Words.{jointWordCount}
 use Rattle.exports.proofs.Answers.{too-short}
 use Rattle.exports.proofs.Calls.{write-put, write-refused}
@@ -13,6 +14,9 @@ use Rattle.exports.proofs.jinqewan_write.Tie as tie
 abbrev long-enough : tie.After-joint-of → tie.Else1
 long-enough c = c .before
 
+abbrev start : tie.After-joint-of → tie.Start
+start c = long-enough c .before .before .before
+
 abbrev joint-known : tie.After-write → tie.After-joint-of
 joint-known c = c .before .before
 
@@ -22,7 +26,7 @@ written c = c .before .before
 -- ---- the needs
 
 returns : tie.Need-returns
-returns c = too-short _ _ _ _ (lt-leb jointWordCount _ (c .if1 .taken))
+returns c = too-short _ _ _ _ _ (lt-leb jointWordCount _ (c .if1 .taken))
 
 joint-of-requires : tie.Need-joint-of-requires
 joint-of-requires c κs = search needs
@@ -43,7 +47,7 @@ returns-2 : tie.Need-returns-2
 returns-2 c =
     let call = written (c .before .before .before) in
     let joint = joint-known call in
-    write-put _ _ _ (long-enough joint .if1 .left) (joint .joint-of .ensures) _ (call .write .ensures) (c .before .written .given .1)
+    write-put (now (start joint .args .fields)) _ _ (long-enough joint .if1 .left) (joint .joint-of .ensures) _ (call .write .ensures) (c .before .written .given .1)
 
 same-length-2 : tie.Need-same-length-2
 same-length-2 c = search needs
@@ -52,7 +56,7 @@ returns-3 : tie.Need-returns-3
 returns-3 c =
     let call = written (c .before .before .before) in
     let joint = joint-known call in
-    write-refused _ _ _ (long-enough joint .if1 .left) (joint .joint-of .ensures) _ (call .write .ensures) (c .before .written2 .given .1)
+    write-refused (now (start joint .args .fields)) _ _ (long-enough joint .if1 .left) (joint .joint-of .ensures) _ (call .write .ensures) (c .before .written2 .given .1)
 
 pub jinqewan-write-spec : {M : Type 1} → statement M
 jinqewan-write-spec =
