@@ -5,12 +5,13 @@ use mathlib.Core.List.{map}
 use Rattle.arithmetic.specs.Checks.{firstFailing}
 use Rattle.arithmetic.specs.Greatest.{search-from}
 use Rattle.joint.specs.Fields.{leverChecks, fixedChecks, fieldChecks, fieldCheck}
+use Rattle.joint.specs.Faces.{twoFaced, firstRows, firstFace}
 use Rattle.joint.specs.Places.{eightPlaces}
 use Rattle.numbers.specs.Number.{groups, readGroups}
 use Rattle.numbers.specs.Run.{readNumbers, storedAll}
-use Rattle.fields.specs.Fields.{jointOf, axialOf, storedAxial, fieldsOf}
-use Rattle.jointfile.specs.File.{readOthers, readJoint}
-use Rattle.jointfile.specs.Write.{fileOf}
+use Rattle.fields.specs.Fields.{ownOf, jointOf, axialOf, storedAxial, fieldsOf}
+use Rattle.jointfile.specs.File.{readOthers, readPart, readSecond, readJoint}
+use Rattle.jointfile.specs.Write.{partOf, file}
 use Rattle.sharing.specs.Groups.{groupsAbove, groupCount, listed, withCap}
 use Rattle.sharing.specs.Sharing.{leastUpTo, lowered, allowance, nextForce, forcesDownTo, shared, moment, newtonMetres}
 use Rattle.allocation.specs.Allocation.{noneAbove, allocateRefusals, allocated}
@@ -28,17 +29,19 @@ use Rattle.verdicts.specs.Bending.{carries}
 use Rattle.verdicts.specs.Bolts.{bearing, idlePair, pullingPair, boltTotal, boltsPass}
 use Rattle.verdicts.specs.Welds.{topRows, flangeWeldBy, webWeldPasses}
 use Rattle.refusals.specs.Refusals.{leversFall, rowsInPlace, tooTight}
-use Rattle.work.specs.OneFace.{governingOf, capOf, forcesOf}
-use Rattle.work.specs.Work.{refusalsAfter10, resultOf, workedFace, worked}
+use Rattle.panel.specs.Panel.{governingTotal, panelPasses}
+use Rattle.connection.specs.OneFace.{governingOf, capOf, forcesOf}
+use Rattle.connection.specs.Connection.{refusalsAfter10, resultOf, workedFace, workedConnection}
+use Rattle.work.specs.Work.{panelVerdict, workedFaces, worked}
 use Rattle.items.specs.Digits.{digits}
 use Rattle.items.specs.Items.{spaced}
-use Rattle.line.specs.Line.{resultLine, outcomeLine}
-use Rattle.printer.specs.Sheet.{linesWithin, sheetLines, concatenated}
+use Rattle.line.specs.Line.{resultLine, outcomeLines, concatenated}
+use Rattle.printer.specs.Sheet.{linesWithin, sheetLines}
 use Rattle.checked.specs.Checked.{Checked, table}
 
 pub all-agree : map (λ (c : Checked). c .given) table ≡ map (λ (c : Checked). c .stated) table
-unfolding table firstFailing search-from leverChecks fixedChecks fieldChecks fieldCheck eightPlaces
-    groups readGroups readNumbers storedAll jointOf axialOf storedAxial fieldsOf readOthers readJoint fileOf
+unfolding table firstFailing search-from leverChecks fixedChecks fieldChecks fieldCheck twoFaced firstRows firstFace eightPlaces
+    groups readGroups readNumbers storedAll ownOf jointOf axialOf storedAxial fieldsOf readOthers readPart readSecond readJoint partOf file
     groupsAbove groupCount listed withCap leastUpTo lowered allowance nextForce forcesDownTo shared moment newtonMetres
     noneAbove allocateRefusals allocated
     steelStrength steelBearing weldStrength boltArea boltTension boltShear boltBearing boltUltimate pairTension pairShear
@@ -47,6 +50,6 @@ unfolding table firstFailing search-from leverChecks fixedChecks fieldChecks fie
     bearingLength beamFlange webBearing bucklingLimit webBuckling reducedNearEnd panelShear resistancesOf
     lesser governingCheck tensionCap overCompressed
     carries bearing idlePair pullingPair boltTotal boltsPass topRows flangeWeldBy webWeldPasses leversFall rowsInPlace tooTight
-    governingOf capOf forcesOf refusalsAfter10 resultOf workedFace worked
-    digits spaced resultLine outcomeLine linesWithin sheetLines concatenated
+    governingTotal panelPasses governingOf capOf forcesOf refusalsAfter10 resultOf workedFace workedConnection panelVerdict workedFaces worked
+    digits spaced resultLine outcomeLines linesWithin sheetLines concatenated
 all-agree = refl

@@ -4,13 +4,15 @@ use Prim.Native.Nat.{ℕ}
 use mathlib.Core.Bool.{cond}
 use mathlib.Core.List.{List, [], _∷_, _++_}
 use lib.ListN.{take}
-use lib.IntN.{ℤ, pos}
+use lib.IntN.{ℤ, pos, negℤ}
 use Rattle.joint.specs.declared.Joint.{Joint}
 use Rattle.joint.specs.declared.Column.{Column}
+use Rattle.joint.specs.declared.Face.{Face}
 use Rattle.joint.specs.declared.Plate.{Plate}
 use Rattle.numbers.specs.Parse.{Parse, got, refused}
 use Rattle.numbers.specs.Number.{stored, readNumber}
-use Rattle.jointfile.specs.File.{reading}
+use Rattle.fields.specs.Fields.{secondFaceOf}
+use Rattle.jointfile.specs.File.{noPart, reading}
 use Rattle.jointfile.specs.Write.{file}
 use Rattle.jointfile.specs.declared.FileKind.{FileKind}
 use Rattle.jointfile.specs.declared.FileKind.the-variants.{Old, New}
@@ -23,6 +25,8 @@ use Rattle.strength.specs.declared.SteelStrengths.{SteelStrengths}
 use Rattle.stubs.specs.Bending.{effectiveEdge, effectiveLength, bending}
 use Rattle.stubs.specs.Web.{webTension}
 use Rattle.compression.specs.Compression.{webBuckling, reducedNearEnd}
+use Rattle.outcome.specs.declared.PanelVerdict.{PanelVerdict}
+use Rattle.outcome.specs.declared.PanelVerdict.the-variants.{NotAsked, Passes, Fails}
 use Rattle.work.specs.Work.{worked}
 use Rattle.printer.specs.Sheet.{sheetOf}
 
@@ -132,31 +136,39 @@ checked-H = record {
   stated = 0xAC ∷ 0x02 ∷ 0 ∷ 300 ∷ 2 ∷ [];
 }
 
--- I: the joint with an axial force N
+-- I: its face with field 1 and an axial force N, its column, and the joint
+face-I : (count : ℕ) (axial : ℤ) → Face
+face-I count axial = record {
+  rows = count;
+  extended = 0;
+  beam = record { grade = 275; depth = 3071; width = 1657; flange = 118; web = 67 };
+  plate = record { grade = 275; width = 2000; thickness = 200 };
+  layout = record { gauge = 900; edge = 0; alpha = 600 };
+  welds = record { flange = 80; web = 60; length = 2000 };
+  «shear_rows» = 1;
+  loads = record { axial = axial; shear = 57000; moment = 50000 };
+  levers = 2400 ∷ 0 ∷ 0 ∷ 0 ∷ 0 ∷ 0 ∷ 0 ∷ 0 ∷ [];
+}
+
+column-I : Column
+column-I = record {
+  grade = 275;
+  depth = 5283;
+  width = 2087;
+  flange = 132;
+  web = 96;
+  radius = 127;
+  clear = 4765;
+  «end_distance» = 15000;
+}
+
 joint-I : ℤ → Joint
+unfolding face-I column-I
 joint-I axial = record {
-  column = record {
-    grade = 275;
-    depth = 5283;
-    width = 2087;
-    flange = 132;
-    web = 96;
-    radius = 127;
-    clear = 4765;
-    «end_distance» = 15000;
-  };
+  column = column-I;
   bolts = record { class = 88; diameter = 20 };
-  face = record {
-    rows = 1;
-    extended = 0;
-    beam = record { grade = 275; depth = 3071; width = 1657; flange = 118; web = 67 };
-    plate = record { grade = 275; width = 2000; thickness = 200 };
-    layout = record { gauge = 900; edge = 0; alpha = 600 };
-    welds = record { flange = 80; web = 60; length = 2000 };
-    «shear_rows» = 1;
-    loads = record { axial = axial; shear = 57000; moment = 50000 };
-    levers = 2400 ∷ 0 ∷ 0 ∷ 0 ∷ 0 ∷ 0 ∷ 0 ∷ 0 ∷ [];
-  };
+  face = face-I 1 axial;
+  other = secondFaceOf (noPart .fields) (noPart .levers);
 }
 
 -- I's file of either kind
@@ -195,8 +207,50 @@ checked-I-file : Checked
 unfolding read-I bytes-I
 checked-I-file = record { given = read-I New ++ read-I Old; stated = (0 ∷ 51 ∷ bytes-I) ++ (0 ∷ 49 ∷ bytes-I) }
 
+-- I on both faces of its column, with an axial force N on each
+both-I : (first second : ℤ) → Joint
+unfolding face-I column-I
+both-I first second = record {
+  column = column-I;
+  bolts = record { class = 88; diameter = 20 };
+  face = face-I 17 first;
+  other = face-I 1 second;
+}
+
+-- I's line with the panel's P, for each face
+line-I : List ℕ
+line-I =
+    49 ∷ 32 ∷ 49 ∷ 32 ∷ 50 ∷ 49 ∷ 57 ∷ 51 ∷ 52 ∷ 53 ∷ 32 ∷ 50 ∷ 49 ∷ 57 ∷ 51 ∷ 52 ∷ 53 ∷ 32 ∷ 53 ∷ 50 ∷ 54 ∷ 52 ∷ 50
+    ∷ 32 ∷ 52 ∷ 48 ∷ 55 ∷ 55 ∷ 48 ∷ 54 ∷ 32 ∷ 75 ∷ 32 ∷ 80 ∷ 32 ∷ 80 ∷ 32 ∷ 80 ∷ 32 ∷ 80 ∷ 32 ∷ 80 ∷ 10 ∷ []
+
+checked-I-both : Checked
+unfolding both-I line-I
+checked-I-both = record { given = sheetOf (file New (both-I (pos 0) (pos 0))); stated = line-I ++ line-I }
+
+-- the refusal, its face and the panel's verdict: 1 passes, 2 fails, 0 isn't asked
+panel-number : PanelVerdict → ℕ
+panel-number NotAsked = 0
+panel-number Passes = 1
+panel-number Fails = 2
+
+panel-I : (first second : ℤ) → List ℕ
+unfolding both-I panel-number
+panel-I first second =
+    let outcome = worked (both-I first second) in
+    outcome .refusal .number ∷ outcome .refusal .face ∷ panel-number (outcome .panel) ∷ []
+
+-- panel shear is 836827: tension of that much on either face, and of a newton more; and N above the governing force on either
+checked-I-panel : Checked
+unfolding panel-I
+checked-I-panel = record {
+  given = panel-I (pos 0) (negℤ (pos 836827)) ++ panel-I (pos 0) (negℤ (pos 836828)) ++ panel-I (negℤ (pos 836828)) (pos 0)
+      ++ panel-I (pos 407707) (pos 407707) ++ panel-I (pos 0) (pos 407707);
+  stated = (0 ∷ 0 ∷ 1 ∷ []) ++ (0 ∷ 0 ∷ 2 ∷ []) ++ (0 ∷ 0 ∷ 2 ∷ []) ++ (15 ∷ 1 ∷ 0 ∷ []) ++ (15 ∷ 2 ∷ 0 ∷ []);
+}
+
 unfoldable pub table : List Checked
 unfolding checked-A checked-B checked-C checked-D checked-E checked-F checked-G checked-H checked-I checked-I-pushed checked-I-file
+    checked-I-both checked-I-panel
 table =
     checked-A ∷ checked-B ∷ checked-C ∷ checked-D ∷ checked-E ∷ checked-F ∷ checked-G ∷ checked-H
-    ∷ checked-I ∷ checked-I-pushed ∷ checked-I-file ∷ []
+    ∷ checked-I ∷ checked-I-pushed ∷ checked-I-file ∷ checked-I-both ∷ checked-I-panel ∷ []
