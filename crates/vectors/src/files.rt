@@ -3,11 +3,14 @@
 use crate::compare::Comparison;
 use crate::compare::compare;
 use crate::compare::compare_bytes;
+use crate::joints::SHORT_JOINT;
 use crate::reader::Bytes;
 use crate::reader::Place;
 use crate::reader::after_equals;
+use crate::reader::after_form;
 use crate::reader::fill;
 use crate::reader::fill_bytes;
+use crate::reader::fill_form;
 use crate::reader::is_end;
 use crate::reader::put_words;
 use jointfile::FileKind;
@@ -57,8 +60,9 @@ pub fn run_read(line: &[u8], kind: FileKind, place: Place) -> Comparison {
         return Comparison::Unreadable;
     };
     let mut should = [0u64; READ_NUMBERS];
-    let end = fill(line, after_equals(line, Place::At(next)), &mut should);
-    if !is_end(line, end) {
+    let equals = after_equals(line, Place::At(next));
+    let answer = fill_form(line, equals, SHORT_JOINT + 2, &mut should);
+    if !is_end(line, after_form(answer)) {
         return Comparison::Unreadable;
     }
     if MOST_BYTES < count {
@@ -101,10 +105,25 @@ fn compare_buffer(
     compare_writing(joint, &mut buffer[..length], should, left)
 }
 
+// The last of the numbers that write is handed, and 0 in its place: the buffer's size comes after a joint of either form.
+fn take_size(given: &mut [u64], count: usize) -> u64 {
+    if count == 0 {
+        return 0;
+    }
+    if given.len() < count {
+        return 0;
+    }
+    let size = given[count - 1];
+    given[count - 1] = 0;
+    size
+}
+
 pub fn run_write(line: &[u8], place: Place) -> Comparison {
     let mut given = [0u64; WRITE_NUMBERS];
     let mut should = [0u64; 2];
-    let equals = after_equals(line, fill(line, place, &mut given));
+    let form = fill_form(line, place, SHORT_JOINT + 1, &mut given);
+    let size = take_size(&mut given, form.count);
+    let equals = after_equals(line, after_form(form));
     let answer = fill(line, equals, &mut should);
     let mut left = [0u8; 512];
     let Bytes::Read { count, next } = fill_bytes(line, answer, &mut left) else {
@@ -117,5 +136,5 @@ pub fn run_write(line: &[u8], place: Place) -> Comparison {
     if MOST_BYTES < count {
         return Comparison::Unreadable;
     }
-    compare_buffer(joint, given[JOINT_WORDS], should, &left[..count])
+    compare_buffer(joint, size, should, &left[..count])
 }

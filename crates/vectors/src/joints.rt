@@ -1,37 +1,46 @@
-// Work on a line's joint: `work J = refusal field R`.
+// Work on a line's joint: `work J = refusal field R`, and with a second face `work J = refusal field R R panel face`.
 use crate::compare::Comparison;
 use crate::compare::compare;
 use crate::reader::Place;
-use crate::reader::fill_sides;
+use crate::reader::after_equals;
+use crate::reader::after_form;
+use crate::reader::fill_form;
+use crate::reader::is_end;
 use crate::reader::put_words;
 use words::joints::JOINT_WORDS;
 use words::joints::joint_of;
-use words::results::RESULT_WORDS;
-use words::results::put_result;
+use words::results::FACE_WORDS;
+use words::results::OUTCOME_WORDS;
+use words::results::put_outcome;
 
-// The numbers of what a joint comes to.
-pub const OUTCOME_NUMBERS: usize = RESULT_WORDS + 2;
+// The words of a joint in the short form, which has no second face.
+pub const SHORT_JOINT: usize = 38;
 
-// What a joint's words come to: refusal, field, and the words of the result.
+// The numbers of what a joint comes to: refusal, field, the words of the outcome and the face; and in the short form.
+pub const OUTCOME_NUMBERS: usize = OUTCOME_WORDS + 3;
+
+pub const SHORT_OUTCOME: usize = FACE_WORDS + 2;
+
+// What a joint's words come to.
 pub fn worked_numbers(joint: [u32; JOINT_WORDS]) -> [u64; OUTCOME_NUMBERS] {
     let outcome = work::work(joint_of(&joint));
     let refusal = outcome.refusal;
-    let result = outcome.result;
     let mut numbers = [0u64; OUTCOME_NUMBERS];
-    put_result(result, &mut numbers[2..]);
+    put_outcome(outcome, &mut numbers[2..]);
     numbers[0] = refusal.number as u64;
     numbers[1] = refusal.field as u64;
+    numbers[OUTCOME_NUMBERS - 1] = refusal.face as u64;
     numbers
 }
 
 pub fn run(line: &[u8], place: Place) -> Comparison {
     let mut given = [0u64; JOINT_WORDS];
     let mut should = [0u64; OUTCOME_NUMBERS];
-    if !fill_sides(line, place, &mut given, &mut should) {
-        return Comparison::Unreadable;
-    }
+    let form = fill_form(line, place, SHORT_JOINT, &mut given);
+    let equals = after_equals(line, after_form(form));
+    let answer = fill_form(line, equals, SHORT_OUTCOME, &mut should);
     let mut joint = [0u32; JOINT_WORDS];
-    if !put_words(&given, &mut joint) {
+    if !(is_end(line, after_form(answer)) & put_words(&given, &mut joint)) {
         return Comparison::Unreadable;
     }
     let are = worked_numbers(joint);

@@ -27,13 +27,13 @@ mod progress;
 mod reader;
 
 // One byte more than there may be, so that an input that is too long is seen to be.
-const INPUT_SPACE: usize = 1048577;
+const INPUT_SPACE: usize = 2097153;
 
 // Zeros for what is read.
-fn input_space() -> [u8; 1048577]
-    ensures { λ r. ⌜ 1048577 ≡ length r ⌝ }
+fn input_space() -> [u8; 2097153]
+    ensures { λ r. ⌜ 2097153 ≡ length r ⌝ }
 {
-    [0; 1048577]
+    [0; 2097153]
 }
 
 // Runs the call that a line names; `first` is its first byte. Work and write begin alike.
@@ -95,7 +95,7 @@ fn main() {
     if INPUT_SPACE <= size {
         io::write_all(
             STDERR_FILENO,
-            b"vectors: the input is longer than 1048576 bytes; nothing is run\n",
+            b"vectors: the input is longer than 2097152 bytes; nothing is run\n",
         );
         return;
     }

@@ -6,16 +6,18 @@
 use crate::compare::Comparison;
 use crate::compare::compare;
 use crate::joints::OUTCOME_NUMBERS;
+use crate::joints::SHORT_JOINT;
+use crate::joints::SHORT_OUTCOME;
 use crate::joints::worked_numbers;
 use crate::reader::Place;
 use crate::reader::fill_sides;
 use crate::reader::put_words;
 use words::joints::JOINT_WORDS;
 
-// The numbers that a cell and a shear capacity are given by: their own, and the joint's words.
-const CELL_NUMBERS: usize = JOINT_WORDS + 5;
+// The numbers that a cell and a shear capacity are given by: their own, and the joint's words in the short form.
+const CELL_NUMBERS: usize = SHORT_JOINT + 5;
 
-const SHEAR_NUMBERS: usize = JOINT_WORDS + 4;
+const SHEAR_NUMBERS: usize = SHORT_JOINT + 4;
 
 // Where V, field 28, stands among a joint's words, and the verdict on the bolts among the numbers of what it comes to.
 const SHEAR: usize = 27;
@@ -54,17 +56,17 @@ fn compare_print(are: [u64; OUTCOME_NUMBERS], cell: [u32; 5], near: bool) -> Com
 // A cell, or with `near` false an exception.
 pub fn run_cell(line: &[u8], place: Place, near: bool) -> Comparison {
     let mut given = [0u64; CELL_NUMBERS];
-    let mut should = [0u64; OUTCOME_NUMBERS];
+    let mut should = [0u64; SHORT_OUTCOME];
     if !fill_sides(line, place, &mut given, &mut should) {
         return Comparison::Unreadable;
     }
     let mut cell = [0u32; 5];
     let mut joint = [0u32; JOINT_WORDS];
-    if !(put_words(&given, &mut cell) & put_words(&given[5..], &mut joint)) {
+    if !(put_words(&given, &mut cell) & put_words(&given[5..], &mut joint[..SHORT_JOINT])) {
         return Comparison::Unreadable;
     }
     let are = worked_numbers(joint);
-    let found = compare(&are, &should);
+    let found = compare(&are[..SHORT_OUTCOME], &should);
     let Comparison::Same = found else {
         return found;
     };
@@ -116,7 +118,7 @@ pub fn run_shear(line: &[u8], place: Place) -> Comparison {
     }
     let mut cell = [0u32; 4];
     let mut joint = [0u32; JOINT_WORDS];
-    if !(put_words(&given, &mut cell) & put_words(&given[4..], &mut joint)) {
+    if !(put_words(&given, &mut cell) & put_words(&given[4..], &mut joint[..SHORT_JOINT])) {
         return Comparison::Unreadable;
     }
     compare_shear(joint, cell[1], cell[2], cell[3], &should)

@@ -157,6 +157,31 @@ pub fn fill(line: &[u8], place: Place, values: &mut [u64]) -> Place {
     Place::At(numbers.next)
 }
 
+// Fills the front of `values` with the numbers from a place on, as many as the short form has or as there are places; with any other count
+// they can't be read, and 0 is answered for it.
+pub fn fill_form(line: &[u8], place: Place, short: usize, values: &mut [u64]) -> Numbers {
+    let Place::At(from) = place else {
+        return Numbers { count: 0, next: 0 };
+    };
+    let long = values.len();
+    let numbers = fill_some(line, from, values);
+    if (numbers.count == short) | (numbers.count == long) {
+        return numbers;
+    }
+    Numbers {
+        count: 0,
+        next: from,
+    }
+}
+
+// The place after numbers that were read in one of their forms.
+pub fn after_form(numbers: Numbers) -> Place {
+    if numbers.count == 0 {
+        return Place::Bad;
+    }
+    Place::At(numbers.next)
+}
+
 // Fills `given` and `answer` with the numbers on the two sides of a line's ` =`, from a place on. Answers whether that is the whole line.
 pub fn fill_sides(line: &[u8], place: Place, given: &mut [u64], answer: &mut [u64]) -> bool {
     let equals = after_equals(line, fill(line, place, given));

@@ -24,11 +24,17 @@ returns c = search needs
 after-equals-requires : tie.Need-after-equals-requires
 after-equals-requires c κs = search needs
 
-slice-aggregate-fill : tie.Need-slice-aggregate-fill
-slice-aggregate-fill c = search needs
+add-fill-form : tie.Need-add-fill-form
+add-fill-form c = search needs
 
-fill-requires : tie.Need-fill-requires
-fill-requires c κs = search needs
+slice-aggregate-fill-form : tie.Need-slice-aggregate-fill-form
+slice-aggregate-fill-form c = search needs
+
+fill-form-requires : tie.Need-fill-form-requires
+fill-form-requires c κs = search needs
+
+after-form-requires : tie.Need-after-form-requires
+after-form-requires c κs = search needs
 
 is-end-requires : tie.Need-is-end-requires
 is-end-requires c κs = search needs
@@ -64,8 +70,10 @@ run-read-spec =
     enum-told
     returns
     after-equals-requires
-    slice-aggregate-fill
-    fill-requires
+    add-fill-form
+    slice-aggregate-fill-form
+    fill-form-requires
+    after-form-requires
     is-end-requires
     returns-2
     returns-3

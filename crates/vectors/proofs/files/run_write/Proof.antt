@@ -6,20 +6,32 @@ use borrow.Author.Needs.{needs}
 use Rattle.vectors.proofs.files.run_write.Statement.{statement}
 use Rattle.vectors.proofs.files.run_write.Tie as tie
 
+add-fill-form : tie.Need-add-fill-form
+add-fill-form c = search needs
+
+slice-aggregate-fill-form : tie.Need-slice-aggregate-fill-form
+slice-aggregate-fill-form c = search needs
+
+fill-form-requires : tie.Need-fill-form-requires
+fill-form-requires c κs = search needs
+
+slice-aggregate-take-size : tie.Need-slice-aggregate-take-size
+slice-aggregate-take-size c = search needs
+
+take-size-requires : tie.Need-take-size-requires
+take-size-requires c κs = search needs
+
+after-form-requires : tie.Need-after-form-requires
+after-form-requires c κs = search needs
+
+after-equals-requires : tie.Need-after-equals-requires
+after-equals-requires c κs = search needs
+
 slice-aggregate-fill : tie.Need-slice-aggregate-fill
 slice-aggregate-fill c = search needs
 
 fill-requires : tie.Need-fill-requires
 fill-requires c κs = search needs
-
-after-equals-requires : tie.Need-after-equals-requires
-after-equals-requires c κs = search needs
-
-slice-aggregate-fill-2 : tie.Need-slice-aggregate-fill-2
-slice-aggregate-fill-2 c = search needs
-
-fill-requires-2 : tie.Need-fill-requires-2
-fill-requires-2 c κs = search needs
 
 slice-aggregate-fill-bytes : tie.Need-slice-aggregate-fill-bytes
 slice-aggregate-fill-bytes c = search needs
@@ -54,9 +66,6 @@ returns-2 c = search needs
 returns-3 : tie.Need-returns-3
 returns-3 c = search needs
 
-array-read-compare-buffer : tie.Need-array-read-compare-buffer
-array-read-compare-buffer c = search needs
-
 array-share-prefix-left : tie.Need-array-share-prefix-left
 array-share-prefix-left c = search needs
 
@@ -73,11 +82,15 @@ pub run-write-spec : {M : Type 1} → statement M
 run-write-spec =
     tie.close
     (tie.spec
+    add-fill-form
+    slice-aggregate-fill-form
+    fill-form-requires
+    slice-aggregate-take-size
+    take-size-requires
+    after-form-requires
+    after-equals-requires
     slice-aggregate-fill
     fill-requires
-    after-equals-requires
-    slice-aggregate-fill-2
-    fill-requires-2
     slice-aggregate-fill-bytes
     fill-bytes-requires
     enum-known-count
@@ -89,7 +102,6 @@ run-write-spec =
     put-words-requires
     returns-2
     returns-3
-    array-read-compare-buffer
     array-share-prefix-left
     slice-aggregate-compare-buffer
     compare-buffer-requires
