@@ -8,7 +8,7 @@ use native.Mathlib.Omega.{arith}
 use borrow.Author.Tests.{le-leb, leb-true}
 use lib.Dec.{leb, eqb}
 use lib.ListN.{length, getD, take, drop, length-append, length-take, length-drop}
-use lib.Seq.{take-at, drop-at, take-append-le, getD-append-add, length-take-le}
+use lib.Seq.{getD-set-other, getD-take, take-at, drop-at, take-append-le, getD-append-add, length-take-le}
 use Rattle.arithmetic.specs.Checks.{Check, firstFailing}
 use Rattle.arithmetic.proofs.Checks.{one-after-another}
 use Rattle.buffers.specs.Put.{atFront}
@@ -45,7 +45,7 @@ use Rattle.work.specs.Demand.{Demand3Of}
 use Rattle.printer.specs.Sheet.{sheetOf}
 use Rattle.printer.specs.Answers.{printing, printedMeaning}
 use Rattle.printer.specs.declared.Printed.{Printed}
-use Rattle.words.specs.Words.{firstWordCount, jointWordCount, wordsFrom, jointOfWords}
+use Rattle.words.specs.Words.{firstWordCount, jointWordCount, wordsFrom, fieldsOfWords, jointOfWords}
 use Rattle.words.specs.Results.{faceWordCount, flag, figureWords, resultWords, panelFlag, outcomeWords}
 use Rattle.exports.specs.Answers.{answers}
 use Rattle.exports.specs.Calls.{filePut, writingInto, Demand3OfFace, Demand3OfWords, sheetAnswer, sheetingInto}
@@ -200,14 +200,20 @@ work-small joint eight eight′ = go (twoFaced (joint .face .rows))
         (λ other. record { number = omega arith; field = omega arith; face = omega arith }))
     go false = connection-small true (joint .column) (joint .bolts) first eight
 
+-- field 1 is the first word
+pub first-word : (fields : List ℕ) → getD (fieldsOfWords 26 (wordsFrom 0 fieldCount fields)) 0 0 ≡ getD fields 0 0
+unfolding fieldsOfWords
+first-word fields =
+    getD-set-other (take fieldCount fields) 26 0 _ 0 (λ same. absurd (omega arith)) ∙ getD-take fieldCount fields 0 0 (omega arith)
+
 eight-words : (from : ℕ) (fields : List ℕ) → from + 8 ≤ length fields → length (wordsFrom from 8 fields) ≡ 8
 eight-words from fields room = length-take-le 8 (drop from fields) (omega (arith, length-drop from fields))
 
-pub refusal-small : (fields : List ℕ) → jointWordCount ≤ length fields → {joint : Joint} {outcome : Outcome} → joint ≡ jointOfWords fields
-    → outcome ≡ worked joint → Small (outcome .refusal)
+pub refusal-small : (fields : List ℕ) → jointWordCount ≤ length fields → {outcome : Outcome} → outcome ≡ worked (jointOfWords fields)
+    → Small (outcome .refusal)
 unfolding jointOf
-refusal-small fields room same is =
-    rw (is, same)
+refusal-small fields room is =
+    rw is
     (work-small (jointOfWords fields) (eight-words fieldCount fields (omega (arith, room)))
     (eight-words (firstWordCount + ownCount) fields (omega (arith, room))))
 

@@ -7,16 +7,22 @@
 // for all lines. Whatever the answer is but 0, every slice and place is as it was. The sheet's refusals are its lines: they are printed,
 // `R 4` too, and answered 0.
 ghost use mathlib.Core.Path.{_≡_};
-ghost use lib.ListN.{take};
+ghost use Prim.Native.Nat.{_≤_};
+ghost use lib.ListN.{length, take};
 ghost use Rattle.jointfile.specs.File.{reading};
 ghost use Rattle.sharing.specs.Groups.{listed};
 ghost use Rattle.sharing.specs.Best.{Best};
-ghost use Rattle.words.specs.Words.{jointOfWords};
+ghost use Rattle.work.specs.Work.{worked};
+ghost use Rattle.work.specs.Demand.{Demand3Of};
+ghost use Rattle.words.specs.Words.{jointWordCount, jointOfWords};
 ghost use Rattle.exports.specs.Answers.{answers};
 ghost use Rattle.exports.specs.Calls.{allocating, kindOf, readingInto, writingInto, workingInto};
 ghost use Rattle.exports.specs.Calls.{Demand3OfWords, sheetingInto};
+use connection::work_connection;
+use joint::is_two_faced;
 use jointfile::FileKind;
 use jointfile::Written;
+use outcome::Outcome;
 use printer::Printed;
 use words::joints::JOINT_WORDS;
 use words::results::OUTCOME_WORDS;
@@ -110,6 +116,20 @@ pub extern "C" fn jinqewan_write(fields: &[u32], buffer: &mut [u8], length: &mut
     }
 }
 
+// A joint's words worked. Where there is one face, nothing of a second is made of them.
+fn work_words(fields: &[u32]) -> Outcome
+    requires { ⌜ jointWordCount ≤ length (now fields) ⌝ }
+    ensures equals { λ r. ⌜ r ≡ worked (jointOfWords (now (fields .entry))) ⌝ }
+    ensures demand { λ r. ⌜ (r .refusal .number ≡ 0 → Demand3Of (jointOfWords (now (fields .entry))) r) ⌝ }
+{
+    if is_two_faced(fields[0]) {
+        return work::work(words::joints::joint_of(fields));
+    }
+    let joint = words::joints::one_faced_of(fields);
+    let face = joint.face;
+    work_connection(true, joint.column, joint.bolts, face)
+}
+
 // Work: the result's words go to the first places, and its forces are the best there are: demand 3.
 #[no_mangle]
 pub extern "C" fn jinqewan_work(fields: &[u32], result: &mut [u64]) -> u32
@@ -122,7 +142,7 @@ pub extern "C" fn jinqewan_work(fields: &[u32], result: &mut [u64]) -> u32
     if result.len() < OUTCOME_WORDS {
         return SHORT;
     }
-    let worked = work::work(words::joints::joint_of(fields));
+    let worked = work_words(fields);
     let refusal = worked.refusal;
     if refusal.number != 0 {
         return refusal.number + 256 * refusal.field + 65536 * refusal.face;

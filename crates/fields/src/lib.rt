@@ -41,7 +41,7 @@ pub fn stored_axial(axial: i32) -> u32
     }
 }
 
-fn column_of(fields: &[u32]) -> Column
+pub fn column_of(fields: &[u32]) -> Column
     requires { ⌜ fieldCount ≤ length (now fields) ⌝ }
     ensures { λ r. ⌜ r ≡ columnOf (now (fields .entry)) ⌝ }
 {
@@ -57,7 +57,7 @@ fn column_of(fields: &[u32]) -> Column
     }
 }
 
-fn bolts_of(fields: &[u32]) -> Bolts
+pub fn bolts_of(fields: &[u32]) -> Bolts
     requires { ⌜ fieldCount ≤ length (now fields) ⌝ }
     ensures { λ r. ⌜ r ≡ boltsOf (now (fields .entry)) ⌝ }
 {
@@ -67,7 +67,8 @@ fn bolts_of(fields: &[u32]) -> Bolts
     }
 }
 
-// The parts of a face, from the numbers of its part of the file: field 6 at the sixth's place, field 14 at the fourteenth's.
+// The parts of a face, from the numbers of its part of the file: field 6 at the sixth's place, field 14 at the fourteenth's. What is open
+// here with a `requires` is so for the crate of words.
 fn beam_of(numbers: &[u32], sixth: usize, fourteenth: usize) -> Beam
     requires { ⌜ PlacesWithin (now numbers) sixth fourteenth ⌝ }
     ensures { λ r. ⌜ r ≡ beamOf (now (numbers .entry)) sixth fourteenth ⌝ }
@@ -125,7 +126,7 @@ fn loads_of(numbers: &[u32], fourteenth: usize) -> Loads
     }
 }
 
-fn face_of(numbers: &[u32], sixth: usize, fourteenth: usize, levers: [u32; 8]) -> Face
+pub fn face_of(numbers: &[u32], sixth: usize, fourteenth: usize, levers: [u32; 8]) -> Face
     requires { ⌜ PlacesWithin (now numbers) sixth fourteenth ⌝ }
     ensures { λ r. ⌜ r ≡ faceOf (now (numbers .entry)) sixth fourteenth levers ⌝ }
 {

@@ -9,6 +9,7 @@ ghost use Rattle.buffers.specs.Put.{atFront};
 ghost use Rattle.fields.specs.Fields.{storedAxial};
 ghost use Rattle.words.specs.Words.{jointWordCount, axialOfWord, wordOfAxial, fieldsOfWords, wordsFrom};
 ghost use Rattle.words.specs.Words.{jointOfWords, headOf, wordsOf};
+ghost use Rattle.words.specs.OneFaced.{oneFacedOfWords};
 use crate::put::put_eight_u32;
 use crate::put::put_u32;
 use fields::FIELD_COUNT;
@@ -75,6 +76,28 @@ pub fn joint_of(words: &[u32]) -> Joint
     );
     let other_levers = levers_of(words, FIRST_WORDS + OWN_COUNT);
     fields::joint_of(fields, levers, own, other_levers)
+}
+
+// A joint without its second face.
+pub struct OneFaced {
+    pub column: Column,
+    pub bolts: Bolts,
+    pub face: Face,
+}
+
+// What a joint's words have without a second face: of those nothing is read.
+pub fn one_faced_of(words: &[u32]) -> OneFaced
+    requires { ⌜ jointWordCount ≤ length (now words) ⌝ }
+    ensures { λ r. ⌜ r ≡ oneFacedOfWords (now (words .entry)) ⌝ }
+{
+    let mut fields = [0u32; FIELD_COUNT];
+    put_stored(&words[..FIELD_COUNT], AXIAL, &mut fields);
+    let levers = levers_of(words, FIELD_COUNT);
+    OneFaced {
+        column: fields::column_of(&fields),
+        bolts: fields::bolts_of(&fields),
+        face: fields::face_of(&fields, 5, 13, levers),
+    }
 }
 
 // The word of an axial force: its two's complement. Where the force is below 0, -1 - axial isn't, and can't wrap.

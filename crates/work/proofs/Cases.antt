@@ -1,5 +1,5 @@
 -- Work's definition case by case: a face that is refused and one that isn't, and a joint that has one face alone. Assumes nothing.
-use mathlib.Core.Path.{_≡_, sym, ap, _∙_}
+use mathlib.Core.Path.{_≡_, sym, ap, subst, _∙_}
 use mathlib.Core.Bool.{Bool, true, false}
 use Prim.Native.Nat.{ℕ}
 use native.Mathlib.Omega.{arith}
@@ -11,10 +11,12 @@ use Rattle.joint.specs.declared.Face.{Face}
 use Rattle.joint.specs.declared.Joint.{Joint}
 use Rattle.joint.proofs.Faces.{rows-as-stored}
 use Rattle.connection.specs.Connection.{refusedOutcome, workedConnection}
+use Rattle.connection.specs.Demand.{Demand3For}
 use Rattle.connection.proofs.Answers.{panel-not-asked}
 use Rattle.outcome.specs.declared.FaceResult.{FaceResult}
 use Rattle.outcome.specs.declared.Outcome.{Outcome}
 use Rattle.outcome.specs.declared.PanelVerdict.the-variants.{NotAsked}
+use Rattle.work.specs.Demand.{FacesDemand3, Demand3Of}
 use Rattle.work.specs.Work.{ifTaken, bothTaken, workedSecond, workedFaces, worked}
 
 -- ---- a face that may be refused
@@ -48,7 +50,7 @@ module _ (column : Column) (bolts : Bolts) (first second : Face) {one : Outcome}
 
 -- ---- one face alone
 
-pub first-alone : (face : Face) → twoFaced (face .rows) ≡ false → face ≡ firstFace face
+first-alone : (face : Face) → twoFaced (face .rows) ≡ false → face ≡ firstFace face
 unfolding firstFace
 first-alone face alone = ap (withRows face) (sym (rows-as-stored (face .rows) alone))
 
@@ -68,5 +70,22 @@ module _ (joint : Joint) where
       ap (λ (outcome : Outcome). outcome .panel) (sym (of-one alone)) ∙ panel-not-asked true (joint .column) (joint .bolts) (joint .face)
 
 -- field 1 doesn't say both
-pub not-both : {test : Bool} → test ≡ true → test ≡ false → ⊥
+not-both : {test : Bool} → test ≡ true → test ≡ false → ⊥
 not-both e e′ = let never : _≡_ {A = ℕ} 0 1 = cc in absurd (omega arith)
+
+-- ---- demand 3 by the call for one face, and by that for both
+
+module _ (joint : Joint) (outcome : Outcome) where
+  pub demand-alone : twoFaced (joint .face .rows) ≡ false → Demand3For true (joint .column) (joint .bolts) (joint .face) (outcome .result)
+      → Demand3Of joint outcome
+  demand-alone alone demand =
+      record {
+        one-face = λ same.
+            subst (λ (face : Face). Demand3For true (joint .column) (joint .bolts) face (outcome .result)) (first-alone (joint .face) alone)
+            demand;
+        two-faces = λ two. absurd (not-both two alone);
+      }
+
+  pub demand-both : twoFaced (joint .face .rows) ≡ true
+      → FacesDemand3 (joint .column) (joint .bolts) (firstFace (joint .face)) (joint .other) outcome → Demand3Of joint outcome
+  demand-both both demand = record { one-face = λ alone. absurd (not-both both alone); two-faces = λ two. demand }

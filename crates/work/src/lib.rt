@@ -22,12 +22,14 @@ pub fn work(joint: Joint) -> Outcome
     ensures equals { λ r. ⌜ r ≡ worked joint ⌝ }
     ensures demand { λ r. ⌜ (r .refusal .number ≡ 0 → Demand3Of joint r) ⌝ }
 {
+    let column = joint.column;
+    let bolts = joint.bolts;
     let face = joint.face;
     if joint::is_two_faced(face.rows) {
         let other = joint.other;
-        return work_faces(joint.column, joint.bolts, joint::first_face(face), other);
+        return work_faces(column, bolts, joint::first_face(face), other);
     }
-    work_connection(true, joint.column, joint.bolts, face)
+    work_connection(true, column, bolts, face)
 }
 
 // Both faces, the first before the second. Panel shear counts in neither's cap.

@@ -27,16 +27,16 @@ start c = c .before .before
 abbrev words-enough : tie.Else2 → tie.Else1
 words-enough c = c .before
 
-abbrev long-enough : tie.After-work → tie.Else2
-long-enough c = c .before .before
+abbrev long-enough : tie.After-work-words → tie.Else2
+long-enough c = c .before
 
-abbrev begin : tie.After-work → tie.Start
+abbrev begin : tie.After-work-words → tie.Start
 begin c = start (words-enough (long-enough c) .before)
 
-abbrev worked-at : tie.After-struct-known → tie.After-work
+abbrev worked-at : tie.After-struct-known → tie.After-work-words
 worked-at c = c .before .before
 
-abbrev refused-at : tie.After-struct-known2 → tie.After-work
+abbrev refused-at : tie.After-struct-known2 → tie.After-work-words
 refused-at c = worked-at (c .before .before)
 
 abbrev passed : tie.After-put-outcome → tie.Else3
@@ -44,20 +44,19 @@ passed c = c .before .before
 
 -- ---- what `work` answered
 
-long-both : (c : tie.After-work)
+long-both : (c : tie.After-work-words)
     → let args = begin c .args in
     (leb jointWordCount (length (now (args .fields))) && leb outcomeWordCount (length (now (args .result)))) ≡ true
 long-both c =
     let second = long-enough c in
     simp (le-leb jointWordCount _ (words-enough second .if1 .left), le-leb outcomeWordCount _ (second .if2 .left))
 
-same-outcome : (c : tie.After-work) → c .work .result ≡ worked (jointOfWords (now (begin c .args .fields)))
-same-outcome c = c .work .ensures .0 ∙ ap worked (c .before .joint-of .ensures)
+same-outcome : (c : tie.After-work-words) → c .work-words .result ≡ worked (jointOfWords (now (begin c .args .fields)))
+same-outcome c = c .work-words .ensures .0
 
-small : (c : tie.After-work) → Small (c .work .result .refusal)
+small : (c : tie.After-work-words) → Small (c .work-words .result .refusal)
 small c =
-    refusal-small (now (begin c .args .fields)) (words-enough (long-enough c) .if1 .left) (c .before .joint-of .ensures)
-    (c .work .ensures .0)
+    refusal-small (now (begin c .args .fields)) (words-enough (long-enough c) .if1 .left) (c .work-words .ensures .0)
 
 -- ---- the needs
 
@@ -70,11 +69,8 @@ returns-2 c = (
   λ none. absurd (omega (arith, none)),
 )
 
-joint-of-requires : tie.Need-joint-of-requires
-joint-of-requires c κs = search needs
-
-work-requires : tie.Need-work-requires
-work-requires c κs = search needs
+work-words-requires : tie.Need-work-words-requires
+work-words-requires c κs = search needs
 
 mul-result : tie.Need-mul-result
 mul-result c = omega (arith, small (refused-at c) .field)
@@ -115,13 +111,12 @@ returns-4 c =
     let call = worked-at (passed put .before) in
     let same = same-outcome call in
     let words = now (begin call .args .result) in
-    let front = put .put-outcome .ensures .1 in
-    let own = call .before .joint-of .ensures in (
+    let front = put .put-outcome .ensures .1 in (
       taken _ _ _ _ _ (long-both call) (sym (ap (λ (o : Outcome). o .refusal .number) same) ∙ none)
           (front ∙ ap (λ (o : Outcome). atFront (outcomeWords o) words) same),
-      (λ zero. rw (front, ← own)
-          (demand-words words _ (call .work .result) (put .put-outcome .ensures .0 .0) (put .put-outcome .ensures .0 .1)
-          (call .work .ensures .1 none))),
+      (λ zero. rw front
+          (demand-words words _ (call .work-words .result) (put .put-outcome .ensures .0 .0) (put .put-outcome .ensures .0 .1)
+          (call .work-words .ensures .1 none))),
     )
 
 pub jinqewan-work-spec : {M : Type 1} → statement M
@@ -130,8 +125,7 @@ jinqewan-work-spec =
     (tie.spec
     returns
     returns-2
-    joint-of-requires
-    work-requires
+    work-words-requires
     mul-result
     add-result
     mul-result-2

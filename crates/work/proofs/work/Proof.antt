@@ -1,15 +1,12 @@
 -- `work` meets its contract: field 1 tells whether there are two faces, and demand 3 is that of the call for one face or for both.
 -- Assumes nothing.
 use mathlib.Core.Path.{_≡_, sym, ap, subst, _∙_}
-use mathlib.Core.Bool.{Bool, true, false}
-use Prim.Native.Nat.{ℕ}
-use native.Mathlib.Omega.{arith}
+use mathlib.Core.Bool.{true, false}
 use Rattle.joint.specs.Faces.{twoFaced}
 use Rattle.joint.specs.declared.Face.{Face}
-use Rattle.connection.specs.Demand.{Demand3For}
 use Rattle.work.specs.Work.{workedFaces}
 use Rattle.work.specs.Demand.{FacesDemand3}
-use Rattle.work.proofs.Cases.{of-two, of-one, first-alone, not-both}
+use Rattle.work.proofs.Cases.{of-two, of-one, demand-alone, demand-both}
 use borrow.Author.Needs.{needs}
 use Rattle.work.proofs.work.Statement.{statement}
 use Rattle.work.proofs.work.Tie as tie
@@ -17,7 +14,7 @@ use Rattle.work.proofs.work.Tie as tie
 -- ---- the places
 
 abbrev start : tie.After-is-two-faced → tie.Start
-start c = c .before .before
+start c = c .before .before .before .before
 
 abbrev with-both : tie.After-first-face → tie.Then1
 with-both c = c .before .before
@@ -47,12 +44,9 @@ returns c =
     let j = start (both .before) .args .joint in
     let first = c .before .first-face .ensures in (
       c .work-faces .ensures .0 ∙ ap (λ (face : Face). workedFaces (j .column) (j .bolts) face (j .other)) first ∙ of-two j (two-faced both),
-      (λ none. record {
-        one-face = λ one. absurd (not-both (two-faced both) one);
-        two-faces = λ two.
-            subst (λ (face : Face). FacesDemand3 (j .column) (j .bolts) face (j .other) (c .work-faces .result)) first
-            (c .work-faces .ensures .1 none);
-      }),
+      (λ none. demand-both j _ (two-faced both)
+          (subst (λ (face : Face). FacesDemand3 (j .column) (j .bolts) face (j .other) (c .work-faces .result)) first
+          (c .work-faces .ensures .1 none))),
     )
 
 work-connection-requires : tie.Need-work-connection-requires
@@ -63,12 +57,7 @@ returns-2 c =
     let one = c .before in
     let j = start (one .before) .args .joint in (
       c .work-connection .ensures .0 ∙ of-one j (alone one),
-      (λ none. record {
-        one-face = λ same.
-            subst (λ (face : Face). Demand3For true (j .column) (j .bolts) face (c .work-connection .result .result))
-            (first-alone (j .face) (alone one)) (c .work-connection .ensures .1 none);
-        two-faces = λ two. absurd (not-both two (alone one));
-      }),
+      (λ none. demand-alone j _ (alone one) (c .work-connection .ensures .1 none)),
     )
 
 pub work-spec : {M : Type 1} → statement M
