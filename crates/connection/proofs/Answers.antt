@@ -1,15 +1,14 @@
 -- What the refusals leave: from an answer that is no refusal, that every test of the list holds, and from those tests what the limits
 -- rely on. Assumes nothing.
 use mathlib.Core.Path.{_≡_, refl, sym, ap, _∙_}
-use mathlib.Core.Bool.{Bool, true, false, cond, _&&_, _||_}
-use mathlib.Core.List.{List, [], _∷_}
+use mathlib.Core.Bool.{Bool, true, false, _&&_, _||_}
 use Prim.Native.Nat.{ℕ, suc}
 use native.Mathlib.Omega.{arith}
 use lib.ListN.{length}
 use lib.Dec.{ltb}
 use borrow.Author.Tests.{ltb-false, eq-eqb, not-true}
-use Rattle.arithmetic.specs.Checks.{Check, firstFailing, checksBefore}
-use Rattle.arithmetic.proofs.Checks.{numbered, positive, numbered-holds, of-each}
+use Rattle.arithmetic.specs.Checks.{firstFailing, checksBefore}
+use Rattle.arithmetic.proofs.Checks.{numbered, positive, numbered-holds}
 use Rattle.joint.specs.Ranges.{rowCounts}
 use Rattle.joint.specs.Fields.{fieldCheck}
 use Rattle.joint.specs.InRange.{ColumnInRange, FaceInRange, InRange}
@@ -25,10 +24,8 @@ use Rattle.spacing.specs.Spacing.{leastDistance, leastEdge, spacingOf}
 use Rattle.tension.specs.Admissible.{Admissible}
 use Rattle.refusals.specs.Refusals.{leversFall, tooTight}
 use Rattle.refusals.proofs.Rows.{falls}
-use Rattle.outcome.specs.declared.Outcome.{Outcome}
-use Rattle.outcome.specs.declared.PanelVerdict.{PanelVerdict}
-use Rattle.outcome.specs.declared.PanelVerdict.the-variants.{NotAsked}
-use Rattle.connection.specs.Connection.{refusedOutcome, refusedFace, refusalsAfter10, completed, resultOf, workedFace, workedBy}
+use Rattle.outcome.specs.declared.FaceOutcome.{FaceOutcome}
+use Rattle.connection.specs.Connection.{refusedFace, refusedAfter10, refusalsAfter10, completed, resultOf, workedFace, workedBy}
 use Rattle.connection.specs.Connection.{workedConnection}
 use Rattle.connection.specs.declared.Admission.the-variants.{Admitted, Refused}
 
@@ -72,24 +69,23 @@ admitted panelCounts column bolt face c f eight e =
     apart number same = let never : _≡_ {A = ℕ} 0 1 = cc in absurd (omega arith)
 
 -- a refusal has its number
-pub refusal-is : (number field face : ℕ) (answer : Outcome) → refusedOutcome number field face ≡ answer → answer .refusal .number ≡ 0
-    → number ≡ 0
-refusal-is number field face answer e none = ap (λ a. a .refusal .number) e ∙ none
+pub refusal-is : (number field : ℕ) (answer : FaceOutcome) → refusedFace number field ≡ answer → answer .number ≡ 0 → number ≡ 0
+refusal-is number field answer e none = ap (λ a. a .number) e ∙ none
 
 -- where a face is not refused every test holds, and the answer is the whole result
-pub not-refused : (panelCounts : Bool) (column : Column) (bolt : BoltStrengths) (face : Face) (answer : Outcome)
-    → workedFace panelCounts column bolt face ≡ answer → answer .refusal .number ≡ 0
+pub not-refused : (panelCounts : Bool) (column : Column) (bolt : BoltStrengths) (face : Face) (answer : FaceOutcome)
+    → workedFace panelCounts column bolt face ≡ answer → answer .number ≡ 0
     → ((number : ℕ) → numbered number (refusalsAfter10 panelCounts column bolt face) ≡ true)
     × (completed (resultOf panelCounts column bolt face) ≡ answer)
 unfolding workedFace refusalsAfter10 positive
 not-refused panelCounts column bolt face answer e none =
-    numbered-holds (completed (resultOf panelCounts column bolt face)) refusedFace answer
-    (λ number refused. let never = refusal-is (suc number) 0 0 answer refused none in absurd (omega arith))
+    numbered-holds (completed (resultOf panelCounts column bolt face)) refusedAfter10 answer
+    (λ number refused. let never = refusal-is (suc number) 0 answer refused none in absurd (omega arith))
     (refusalsAfter10 panelCounts column bolt face) tt e
 
 -- where a connection is not refused its fields are in range, and the answer is the face's
-pub in-range-of : (panelCounts : Bool) (column : Column) (bolts : Bolts) (face : Face) (answer : Outcome)
-    → workedConnection panelCounts column bolts face ≡ answer → answer .refusal .number ≡ 0
+pub in-range-of : (panelCounts : Bool) (column : Column) (bolts : Bolts) (face : Face) (answer : FaceOutcome)
+    → workedConnection panelCounts column bolts face ≡ answer → answer .number ≡ 0
     → InRange column bolts face × (workedFace panelCounts column (boltStrengths bolts) face ≡ answer)
 unfolding workedConnection
 in-range-of panelCounts column bolts face answer e none = by-fields (fieldCheck column bolts face) refl e
@@ -98,30 +94,4 @@ in-range-of panelCounts column bolts face answer e none = by-fields (fieldCheck 
         → workedBy found (workedFace panelCounts column (boltStrengths bolts) face) ≡ answer
         → InRange column bolts face × (workedFace panelCounts column (boltStrengths bolts) face ≡ answer)
     by-fields AllInRange found w = (in-range column bolts face found, w)
-    by-fields (Outside field) found w = let never = refusal-is 10 field 0 answer w none in absurd (omega arith)
-
--- ---- a face worked alone asks nothing of the panel
-
-always : (answer : PanelVerdict) (checks : List Check) → firstFailing answer (λ number. answer) checks ≡ answer
-unfolding firstFailing
-always answer [] = refl
-always answer (check ∷ checks) = by-test (check .1) (always answer checks)
-  where
-    by-test : (test : Bool) → firstFailing answer (λ number. answer) checks ≡ answer
-        → cond test (firstFailing answer (λ number. answer) checks) answer ≡ answer
-    by-test true rest = rest
-    by-test false rest = refl
-
-pub panel-not-asked : (panelCounts : Bool) (column : Column) (bolts : Bolts) (face : Face)
-    → workedConnection panelCounts column bolts face .panel ≡ NotAsked
-unfolding workedConnection workedFace
-panel-not-asked panelCounts column bolts face = by-fields (fieldCheck column bolts face)
-  where
-    checks : List Check
-    checks = refusalsAfter10 panelCounts column (boltStrengths bolts) face
-
-    by-fields : (found : FieldCheck) → workedBy found (workedFace panelCounts column (boltStrengths bolts) face) .panel ≡ NotAsked
-    by-fields AllInRange =
-        of-each (λ (outcome : Outcome). outcome .panel) (completed (resultOf panelCounts column (boltStrengths bolts) face)) refusedFace checks
-        ∙ always NotAsked checks
-    by-fields (Outside field) = refl
+    by-fields (Outside field) found w = let never = refusal-is 10 field answer w none in absurd (omega arith)

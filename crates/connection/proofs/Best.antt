@@ -30,7 +30,7 @@ use Rattle.governing.specs.Cap.{newtonsOf}
 use Rattle.governing.proofs.Cases.{cap-newtons}
 use Rattle.verdicts.specs.Bending.{carries}
 use Rattle.verdicts.proofs.Signs.{carries-monotone}
-use Rattle.outcome.specs.declared.Outcome.{Outcome}
+use Rattle.outcome.specs.declared.FaceOutcome.{FaceOutcome}
 use Rattle.connection.specs.OneFace.{rowsOf, leversOf, limitOf, capOf, forcesOf, carriesOf}
 use Rattle.connection.specs.Connection.{refusalsAfter10, resultOf, workedFace, workedConnection}
 use Rattle.connection.specs.Demand.{CompetesFor, Demand3, Demand3For, programsList}
@@ -104,8 +104,8 @@ module _ (panelCounts : Bool) (column : Column) (bolt : BoltStrengths) (face : F
 
 -- a face that no refusal turns down
 of-face : (panelCounts : Bool) (column : Column) (bolt : BoltStrengths) (face : Face) → ColumnInRange column → FaceInRange face
-    → length (face .levers) ≡ rowCounts .high → (answer : Outcome) → workedFace panelCounts column bolt face ≡ answer
-    → answer .refusal .number ≡ 0
+    → length (face .levers) ≡ rowCounts .high → (answer : FaceOutcome) → workedFace panelCounts column bolt face ≡ answer
+    → answer .number ≡ 0
     → Demand3 panelCounts column bolt face (answer .result .forces) (answer .result .verdicts .bending)
 unfolding refusalsAfter10 numbered capOf
 of-face panelCounts column bolt face c f eight answer e none =
@@ -115,7 +115,7 @@ of-face panelCounts column bolt face c f eight answer e none =
 
 -- Demand 3: for every connection whose answer is no refusal. A face in the machine has eight levers.
 pub worked-demand : (panelCounts : Bool) (column : Column) (bolts : Bolts) (face : Face) → length (face .levers) ≡ rowCounts .high
-    → (answer : Outcome) → workedConnection panelCounts column bolts face ≡ answer → answer .refusal .number ≡ 0
+    → (answer : FaceOutcome) → workedConnection panelCounts column bolts face ≡ answer → answer .number ≡ 0
     → Demand3For panelCounts column bolts face (answer .result)
 worked-demand panelCounts column bolts face eight answer e none =
     let taken = in-range-of panelCounts column bolts face answer e none in

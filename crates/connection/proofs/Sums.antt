@@ -20,7 +20,7 @@ use Rattle.governing.specs.Cap.{newtonsOf}
 use Rattle.governing.specs.Governing.{forceOf}
 use Rattle.governing.proofs.Cases.{cap-le}
 use Rattle.governing.proofs.Least.{governing-le-bearing}
-use Rattle.outcome.specs.declared.Outcome.{Outcome}
+use Rattle.outcome.specs.declared.FaceOutcome.{FaceOutcome}
 use Rattle.connection.specs.OneFace.{rowsOf, limitOf, steelOf, governingOf, capOf, forcesOf}
 use Rattle.connection.specs.Connection.{resultOf, workedConnection}
 use Rattle.connection.proofs.Answers.{not-refused, in-range-of}
@@ -46,8 +46,8 @@ module _ (panelCounts : Bool) (column : Column) (face : Face) where
       omega (arith, cap-le (face .loads) (forceOf (governingOf panelCounts column face)), force-le c f, f .loads .axial .high)
 
 -- what is known of a connection that isn't refused: its fields are in range, and the sum of its forces is small
-pub taken : (panelCounts : Bool) (column : Column) (bolts : Bolts) (face : Face) (answer : Outcome)
-    → workedConnection panelCounts column bolts face ≡ answer → answer .refusal .number ≡ 0
+pub taken : (panelCounts : Bool) (column : Column) (bolts : Bolts) (face : Face) (answer : FaceOutcome)
+    → workedConnection panelCounts column bolts face ≡ answer → answer .number ≡ 0
     → InRange column bolts face × (answer .result .sum < 2 ^ 32)
 unfolding resultOf
 taken panelCounts column bolts face answer e none =

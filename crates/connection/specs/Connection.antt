@@ -24,8 +24,7 @@ use Rattle.governing.specs.declared.CompressionCheck.the-variants.{Flange}
 use Rattle.refusals.specs.Refusals.{leversFall, rowsInPlace, tooTight}
 use Rattle.connection.specs.OneFace.{steelOf, governingOf, capOf, forcesOf, momentOf, verdictsOf}
 use Rattle.outcome.specs.declared.FaceResult.{FaceResult}
-use Rattle.outcome.specs.declared.Outcome.{Outcome}
-use Rattle.outcome.specs.declared.PanelVerdict.the-variants.{NotAsked}
+use Rattle.outcome.specs.declared.FaceOutcome.{FaceOutcome}
 
 -- rule 11.8: in a refusal every figure is 0, the check is F with 0, the verdicts are no; and so where there is no second face
 abbrev pub noResult : FaceResult
@@ -38,17 +37,13 @@ noResult = record {
   verdicts = record { bending = false; bolts = false; «flange_weld» = false; «web_weld» = false };
 }
 
-abbrev pub refusedOutcome : (number field face : ℕ) → Outcome
-refusedOutcome number field face = record {
-  refusal = record { number = number; field = field; face = face };
-  result = noResult;
-  other = noResult;
-  panel = NotAsked;
-}
+-- a refusal of a face
+abbrev pub refusedFace : (number field : ℕ) → FaceOutcome
+refusedFace number field = record { number = number; field = field; result = noResult }
 
--- a refusal after 10, of a face worked alone
-abbrev pub refusedFace : (number : ℕ) → Outcome
-refusedFace number = refusedOutcome number 0 0
+-- a refusal after 10
+abbrev pub refusedAfter10 : (number : ℕ) → FaceOutcome
+refusedAfter10 number = refusedFace number 0
 
 -- rules 11.3 to 11.7: the refusals after 10 in their order, each number with the test that lets a face pass
 unfoldable pub refusalsAfter10 : (panelCounts : Bool) → Column → BoltStrengths → Face → List Check
@@ -73,28 +68,23 @@ resultOf panelCounts column bolt face =
       verdicts = verdictsOf column bolt face forces;
     }
 
--- what a face worked alone answers with it
-abbrev pub completed : FaceResult → Outcome
-completed result = record {
-  refusal = record { number = 0; field = 0; face = 0 };
-  result = result;
-  other = noResult;
-  panel = NotAsked;
-}
+-- what a face answers with it
+abbrev pub completed : FaceResult → FaceOutcome
+completed result = record { number = 0; field = 0; result = result }
 
 -- A face whose fields are in range: the first refusal whose test fails, and else the result.
-unfoldable pub workedFace : (panelCounts : Bool) → Column → BoltStrengths → Face → Outcome
+unfoldable pub workedFace : (panelCounts : Bool) → Column → BoltStrengths → Face → FaceOutcome
 unfolding refusalsAfter10 resultOf
 workedFace panelCounts column bolt face =
-    firstFailing (completed (resultOf panelCounts column bolt face)) refusedFace (refusalsAfter10 panelCounts column bolt face)
+    firstFailing (completed (resultOf panelCounts column bolt face)) refusedAfter10 (refusalsAfter10 panelCounts column bolt face)
 
 -- rule 11.2: 10 with the first field that is out of range; then the face
-abbrev pub workedBy : FieldCheck → Outcome → Outcome
+abbrev pub workedBy : FieldCheck → FaceOutcome → FaceOutcome
 workedBy AllInRange outcome = outcome
-workedBy (Outside field) outcome = refusedOutcome 10 field 0
+workedBy (Outside field) outcome = refusedFace 10 field
 
 -- A connection: one face, whatever its fields are, on the column with its bolts.
-unfoldable pub workedConnection : (panelCounts : Bool) → Column → Bolts → Face → Outcome
+unfoldable pub workedConnection : (panelCounts : Bool) → Column → Bolts → Face → FaceOutcome
 unfolding workedFace
 workedConnection panelCounts column bolts face =
     workedBy (fieldCheck column bolts face) (workedFace panelCounts column (boltStrengths bolts) face)

@@ -18,9 +18,9 @@ use Rattle.governing.specs.declared.CompressionCheck.{CompressionCheck}
 use Rattle.verdicts.specs.Asked.{mostMoment}
 use Rattle.verdicts.specs.Tally.{tallyOf}
 use Rattle.verdicts.specs.declared.Tally.{Tally}
-use Rattle.outcome.specs.declared.Outcome.{Outcome}
+use Rattle.outcome.specs.declared.FaceOutcome.{FaceOutcome}
 use Rattle.connection.specs.OneFace.{rowsOf, steelOf, governingOf, capOf, leversOf}
-use Rattle.connection.specs.Connection.{refusedFace}
+use Rattle.connection.specs.Connection.{refusedAfter10}
 use Rattle.connection.specs.declared.Measures.{Measures}
 use Rattle.connection.specs.declared.Admission.{Admission}
 use Rattle.connection.specs.declared.Admission.the-variants.{Admitted, Refused}
@@ -29,9 +29,9 @@ abbrev pub measuresOf : Column → Face → Measures
 measuresOf column face = record { spacing = spacingOf column face; steel = steelOf column face }
 
 -- What an admission comes to, where `outcome` is what a face that is admitted comes to.
-abbrev pub admittedTo : Outcome → Admission → Outcome
+abbrev pub admittedTo : FaceOutcome → Admission → FaceOutcome
 admittedTo outcome Admitted = outcome
-admittedTo outcome (Refused number) = refusedFace number
+admittedTo outcome (Refused number) = refusedAfter10 number
 
 -- What refusal 10 leaves: fields in range, and so the bolts' figures.
 pub record FaceAsked (c : Column) (b : BoltStrengths) (f : Face) : Type 0 where

@@ -12,7 +12,7 @@ ghost use Rattle.governing.specs.Governing.{forceOf};
 ghost use Rattle.sharing.specs.Groups.{withCap, mostLimit};
 ghost use Rattle.sharing.specs.Sharing.{shared};
 ghost use Rattle.connection.specs.OneFace.{rowsOf, limitOf, steelOf, governingOf, verdictsOf};
-ghost use Rattle.connection.specs.Connection.{noResult, refusedOutcome, refusedFace, refusalsAfter10, resultOf, completed};
+ghost use Rattle.connection.specs.Connection.{noResult, refusedFace, refusedAfter10, refusalsAfter10, resultOf, completed};
 ghost use Rattle.connection.specs.Connection.{workedFace, workedConnection};
 ghost use Rattle.connection.specs.Demand.{Demand3For};
 ghost use Rattle.connection.specs.Steps.{measuresOf, FaceAsked, AdmitAsked, AdmittedFace, FaceCap, Tallied};
@@ -24,10 +24,8 @@ use joint::Bolts;
 use joint::Column;
 use joint::Face;
 use joint::FieldCheck;
+use outcome::FaceOutcome;
 use outcome::FaceResult;
-use outcome::Outcome;
-use outcome::PanelVerdict;
-use outcome::Refusal;
 use outcome::Verdicts;
 use spacing::Spacing;
 use strength::BoltStrengths;
@@ -46,15 +44,14 @@ pub enum Admission {
     Refused(u32),
 }
 
-// Works any face on its column: the whole result, or the first refusal in their order that holds, as a joint with that face alone has it.
-// Panel shear counts in the cap, or not. The row forces are the best there are: demand 3, in specs/Demand.antt.
-pub fn work_connection(panel_counts: bool, column: Column, bolts: Bolts, face: Face) -> Outcome
+// Works any face on its column: the whole result, or the first refusal in their order that holds. Panel shear counts in the cap, or not. The row forces are the best there are: demand 3, in specs/Demand.antt.
+pub fn work_connection(panel_counts: bool, column: Column, bolts: Bolts, face: Face) -> FaceOutcome
     ensures equals { λ r. ⌜ r ≡ workedConnection «panel_counts» column bolts face ⌝ }
-    ensures demand { λ r. ⌜ (r .refusal .number ≡ 0 → Demand3For «panel_counts» column bolts face (r .result)) ⌝ }
+    ensures demand { λ r. ⌜ (r .number ≡ 0 → Demand3For «panel_counts» column bolts face (r .result)) ⌝ }
 {
     let found = joint::check_fields(column, bolts, face);
     match found {
-        FieldCheck::Outside(field) => refused(10, field, 0),
+        FieldCheck::Outside(field) => refused(10, field),
         FieldCheck::AllInRange => {
             let bolt = strength::bolt_strengths(bolts);
             work_face(panel_counts, column, bolt, face)
@@ -62,24 +59,18 @@ pub fn work_connection(panel_counts: bool, column: Column, bolts: Bolts, face: F
     }
 }
 
-// What a refusal answers, for the whole joint too.
-pub fn refused(number: u32, field: u32, face: u32) -> Outcome
-    ensures { λ r. ⌜ r ≡ refusedOutcome number field face ⌝ }
+fn refused(number: u32, field: u32) -> FaceOutcome
+    ensures { λ r. ⌜ r ≡ refusedFace number field ⌝ }
 {
-    Outcome {
-        refusal: Refusal {
-            number,
-            field,
-            face,
-        },
+    FaceOutcome {
+        number,
+        field,
         result: no_result(),
-        other: no_result(),
-        panel: PanelVerdict::NotAsked,
     }
 }
 
 // What shows of a face in a refusal, and of a second one that there isn't.
-fn no_result() -> FaceResult
+pub fn no_result() -> FaceResult
     ensures { λ r. ⌜ r ≡ noResult ⌝ }
 {
     FaceResult {
@@ -98,14 +89,14 @@ fn no_result() -> FaceResult
 }
 
 // A face whose fields are in range. That it has eight levers is promised too: of an array that is a field the caller doesn't know it.
-fn work_face(panel_counts: bool, column: Column, bolt: BoltStrengths, face: Face) -> Outcome
+fn work_face(panel_counts: bool, column: Column, bolt: BoltStrengths, face: Face) -> FaceOutcome
     requires { ⌜ FaceAsked column bolt face ⌝ }
     ensures { λ r. ⌜ (r ≡ workedFace «panel_counts» column bolt face) × (length (face .levers) ≡ rowCounts .high) ⌝ }
 {
     let measures = measures_of(column, face);
     let admission = admit(column, bolt, face, measures);
     match admission {
-        Admission::Refused(number) => refused(number, 0, 0),
+        Admission::Refused(number) => refused(number, 0),
         Admission::Admitted => work_admitted(panel_counts, column, bolt, face, measures),
     }
 }
@@ -148,26 +139,21 @@ fn work_admitted(
     bolt: BoltStrengths,
     face: Face,
     measures: Measures,
-) -> Outcome
+) -> FaceOutcome
     requires { ⌜ AdmittedFace column bolt face measures ⌝ }
     ensures { λ r. ⌜ r
-        ≡ firstFailing (completed (resultOf «panel_counts» column bolt face)) refusedFace
+        ≡ firstFailing (completed (resultOf «panel_counts» column bolt face)) refusedAfter10
         (checksFrom 15 (refusalsAfter10 «panel_counts» column bolt face)) ⌝ }
 {
     let check = governing_of(panel_counts, column, face, measures.steel);
     let cap_case = governing::tension_cap(governing::force_of(check), face.loads);
     let Cap::Newtons(cap) = cap_case else {
-        return refused(15, 0, 0);
+        return refused(15, 0);
     };
-    Outcome {
-        refusal: Refusal {
-            number: 0,
-            field: 0,
-            face: 0,
-        },
+    FaceOutcome {
+        number: 0,
+        field: 0,
         result: result_of(column, bolt, face, measures, check, cap),
-        other: no_result(),
-        panel: PanelVerdict::NotAsked,
     }
 }
 

@@ -33,6 +33,15 @@ pub struct FaceResult {
     pub verdicts: Verdicts,
 }
 
+// What one face comes to where it is worked alone.
+pub struct FaceOutcome {
+    // the refusal's number, 0 when nothing is refused
+    pub number: u32,
+    // the first field out of range, with refusal 10; else 0
+    pub field: u32,
+    pub result: FaceResult,
+}
+
 // Whether the web panel of a column with a beam on both faces carries what they bring to it.
 pub enum PanelVerdict {
     // there is one face, and panel shear is in its cap; or the joint is refused

@@ -10,40 +10,45 @@ use Rattle.joint.specs.declared.Column.{Column}
 use Rattle.joint.specs.declared.Face.{Face}
 use Rattle.joint.specs.declared.Joint.{Joint}
 use Rattle.joint.proofs.Faces.{rows-as-stored}
-use Rattle.connection.specs.Connection.{refusedOutcome, workedConnection}
+use Rattle.connection.specs.Connection.{workedConnection}
 use Rattle.connection.specs.Demand.{Demand3For}
-use Rattle.connection.proofs.Answers.{panel-not-asked}
+use Rattle.outcome.specs.declared.FaceOutcome.{FaceOutcome}
 use Rattle.outcome.specs.declared.FaceResult.{FaceResult}
 use Rattle.outcome.specs.declared.Outcome.{Outcome}
 use Rattle.outcome.specs.declared.PanelVerdict.the-variants.{NotAsked}
 use Rattle.work.specs.Demand.{FacesDemand3, Demand3Of}
-use Rattle.work.specs.Work.{ifTaken, bothTaken, workedSecond, workedFaces, worked}
+use Rattle.work.specs.Work.{refusedOutcome, ofOneFace, ifTaken, bothTaken, workedSecond, workedFaces, worked}
 
 -- ---- a face that may be refused
 
-module _ (face : ℕ) (next : FaceResult → Outcome) {answer outcome : Outcome} (e : answer ≡ outcome) where
-  if-refused : (answer .refusal .number ≡ 0 → ⊥)
-      → refusedOutcome (answer .refusal .number) (answer .refusal .field) face ≡ ifTaken face outcome next
-  if-refused some = rw (sym e, ne-eqb (answer .refusal .number) 0 some)
+module _ (face : ℕ) (next : FaceResult → Outcome) {answer outcome : FaceOutcome} (e : answer ≡ outcome) where
+  if-refused : (answer .number ≡ 0 → ⊥)
+      → refusedOutcome (answer .number) (answer .field) face ≡ ifTaken face outcome next
+  if-refused some = rw (sym e, ne-eqb (answer .number) 0 some)
 
-  if-taken : answer .refusal .number ≡ 0 → next (answer .result) ≡ ifTaken face outcome next
-  if-taken none = rw (sym e, eq-eqb (answer .refusal .number) 0 none)
+  if-taken : answer .number ≡ 0 → next (answer .result) ≡ ifTaken face outcome next
+  if-taken none = rw (sym e, eq-eqb (answer .number) 0 none)
+
+-- a refusal has its number
+pub refusal-is : (number field face : ℕ) (answer : Outcome) → answer ≡ refusedOutcome number field face → answer .refusal .number ≡ 0
+    → number ≡ 0
+refusal-is number field face answer e none = sym (ap (λ (o : Outcome). o .refusal .number) e) ∙ none
 
 -- ---- two faces, one after the other
 
-module _ (column : Column) (bolts : Bolts) (first second : Face) {one : Outcome} (e : one ≡ workedConnection false column bolts first) where
-  pub first-refused : (one .refusal .number ≡ 0 → ⊥)
-      → refusedOutcome (one .refusal .number) (one .refusal .field) 1 ≡ workedFaces column bolts first second
+module _ (column : Column) (bolts : Bolts) (first second : Face) {one : FaceOutcome} (e : one ≡ workedConnection false column bolts first) where
+  pub first-refused : (one .number ≡ 0 → ⊥)
+      → refusedOutcome (one .number) (one .field) 1 ≡ workedFaces column bolts first second
   unfolding workedFaces
   first-refused some = if-refused 1 (workedSecond column bolts first second) e some
 
-  module _ (none : one .refusal .number ≡ 0) {two : Outcome} (e′ : two ≡ workedConnection false column bolts second) where
-    pub second-refused : (two .refusal .number ≡ 0 → ⊥)
-        → refusedOutcome (two .refusal .number) (two .refusal .field) 2 ≡ workedFaces column bolts first second
+  module _ (none : one .number ≡ 0) {two : FaceOutcome} (e′ : two ≡ workedConnection false column bolts second) where
+    pub second-refused : (two .number ≡ 0 → ⊥)
+        → refusedOutcome (two .number) (two .field) 2 ≡ workedFaces column bolts first second
     unfolding workedFaces
     second-refused some = if-refused 2 (bothTaken column first second (one .result)) e′ some ∙ if-taken 1 (workedSecond column bolts first second) e none
 
-    pub both-taken : two .refusal .number ≡ 0
+    pub both-taken : two .number ≡ 0
         → bothTaken column first second (one .result) (two .result) ≡ workedFaces column bolts first second
     unfolding workedFaces
     both-taken none′ = if-taken 2 (bothTaken column first second (one .result)) e′ none′ ∙ if-taken 1 (workedSecond column bolts first second) e none
@@ -60,14 +65,16 @@ module _ (joint : Joint) where
   unfolding worked
   of-two both = rw both
 
-  pub of-one : twoFaced (joint .face .rows) ≡ false → workedConnection true (joint .column) (joint .bolts) (joint .face) ≡ worked joint
+  pub of-one : twoFaced (joint .face .rows) ≡ false
+      → ofOneFace (workedConnection true (joint .column) (joint .bolts) (joint .face)) ≡ worked joint
   unfolding worked
-  of-one alone = ap (workedConnection true (joint .column) (joint .bolts)) (first-alone (joint .face) alone) ∙ (rw alone)
+  of-one alone =
+      ap (λ (face : Face). ofOneFace (workedConnection true (joint .column) (joint .bolts) face)) (first-alone (joint .face) alone)
+      ∙ (rw alone)
 
   -- and then the panel isn't asked
   pub panel-alone : twoFaced (joint .face .rows) ≡ false → worked joint .panel ≡ NotAsked
-  panel-alone alone =
-      ap (λ (outcome : Outcome). outcome .panel) (sym (of-one alone)) ∙ panel-not-asked true (joint .column) (joint .bolts) (joint .face)
+  panel-alone alone = ap (λ (outcome : Outcome). outcome .panel) (sym (of-one alone))
 
 -- field 1 doesn't say both
 not-both : {test : Bool} → test ≡ true → test ≡ false → ⊥

@@ -11,11 +11,12 @@ use Rattle.joint.specs.declared.Loads.{Loads}
 use Rattle.strength.specs.Steel.{steelStrength}
 use Rattle.compression.specs.Compression.{panelShear}
 use Rattle.panel.specs.Panel.{governingTotal, panelPasses}
-use Rattle.connection.specs.Connection.{refusedOutcome, workedConnection}
+use Rattle.connection.specs.Connection.{noResult, workedConnection}
+use Rattle.outcome.specs.declared.FaceOutcome.{FaceOutcome}
 use Rattle.outcome.specs.declared.FaceResult.{FaceResult}
 use Rattle.outcome.specs.declared.Outcome.{Outcome}
 use Rattle.outcome.specs.declared.PanelVerdict.{PanelVerdict}
-use Rattle.outcome.specs.declared.PanelVerdict.the-variants.{Passes, Fails}
+use Rattle.outcome.specs.declared.PanelVerdict.the-variants.{NotAsked, Passes, Fails}
 
 -- rule 8.6: the panel's verdict, by the sums of forces and the loads of the two faces
 unfoldable pub panelVerdict : Column → (firstSum : ℕ) (first : Loads) (secondSum : ℕ) (second : Loads) → PanelVerdict
@@ -23,11 +24,28 @@ panelVerdict column firstSum first secondSum second =
     let shear = panelShear (steelStrength (column .grade) (column .flange)) column in
     cond (panelPasses shear (governingTotal firstSum first) (governingTotal secondSum second)) Passes Fails
 
--- rule 11.9: what comes of a face where it may be refused, its number told with the refusal; and else what comes after it
-abbrev pub ifTaken : (face : ℕ) → Outcome → (FaceResult → Outcome) → Outcome
+-- rule 11.8: in a refusal nothing of either face shows
+abbrev pub refusedOutcome : (number field face : ℕ) → Outcome
+refusedOutcome number field face = record {
+  refusal = record { number = number; field = field; face = face };
+  result = noResult;
+  other = noResult;
+  panel = NotAsked;
+}
+
+-- a joint with one face: no face is told, nothing of a second shows, and the panel isn't asked
+abbrev pub ofOneFace : FaceOutcome → Outcome
+ofOneFace outcome = record {
+  refusal = record { number = outcome .number; field = outcome .field; face = 0 };
+  result = outcome .result;
+  other = noResult;
+  panel = NotAsked;
+}
+
+-- rule 11.9: what comes of a face that may be refused, its number told with the refusal; and else what comes after it
+abbrev pub ifTaken : (face : ℕ) → FaceOutcome → (FaceResult → Outcome) → Outcome
 ifTaken face outcome next =
-    cond (eqb (outcome .refusal .number) 0) (next (outcome .result))
-    (refusedOutcome (outcome .refusal .number) (outcome .refusal .field) face)
+    cond (eqb (outcome .number) 0) (next (outcome .result)) (refusedOutcome (outcome .number) (outcome .field) face)
 
 -- the whole answer of two faces that are both taken
 abbrev pub bothTaken : Column → (first second : Face) (result other : FaceResult) → Outcome
@@ -53,4 +71,4 @@ worked joint =
     let first = firstFace (joint .face) in
     cond (twoFaced (joint .face .rows))
     (workedFaces (joint .column) (joint .bolts) first (joint .other))
-    (workedConnection true (joint .column) (joint .bolts) first)
+    (ofOneFace (workedConnection true (joint .column) (joint .bolts) first))

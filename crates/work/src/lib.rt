@@ -3,15 +3,16 @@
 ghost use mathlib.Core.Path.{_≡_};
 ghost use Rattle.joint.specs.InRange.{ColumnInRange};
 ghost use Rattle.panel.specs.Asked.{PanelAsked};
-ghost use Rattle.work.specs.Work.{panelVerdict, workedFaces, worked};
+ghost use Rattle.work.specs.Work.{panelVerdict, refusedOutcome, ofOneFace, workedFaces, worked};
 ghost use Rattle.work.specs.Demand.{FacesDemand3, Demand3Of};
-use connection::refused;
+use connection::no_result;
 use connection::work_connection;
 use joint::Bolts;
 use joint::Column;
 use joint::Face;
 use joint::Joint;
 use joint::Loads;
+use outcome::FaceOutcome;
 use outcome::Outcome;
 use outcome::PanelVerdict;
 use outcome::Refusal;
@@ -29,7 +30,39 @@ pub fn work(joint: Joint) -> Outcome
         let other = joint.other;
         return work_faces(column, bolts, joint::first_face(face), other);
     }
-    work_connection(true, column, bolts, face)
+    of_one_face(work_connection(true, column, bolts, face))
+}
+
+// What a joint with one face answers.
+pub fn of_one_face(worked: FaceOutcome) -> Outcome
+    ensures { λ r. ⌜ r ≡ ofOneFace worked ⌝ }
+{
+    let result = worked.result;
+    Outcome {
+        refusal: Refusal {
+            number: worked.number,
+            field: worked.field,
+            face: 0,
+        },
+        result,
+        other: no_result(),
+        panel: PanelVerdict::NotAsked,
+    }
+}
+
+fn refused(number: u32, field: u32, face: u32) -> Outcome
+    ensures { λ r. ⌜ r ≡ refusedOutcome number field face ⌝ }
+{
+    Outcome {
+        refusal: Refusal {
+            number,
+            field,
+            face,
+        },
+        result: no_result(),
+        other: no_result(),
+        panel: PanelVerdict::NotAsked,
+    }
 }
 
 // Both faces, the first before the second. Panel shear counts in neither's cap.
@@ -38,14 +71,12 @@ fn work_faces(column: Column, bolts: Bolts, first: Face, second: Face) -> Outcom
     ensures demand { λ r. ⌜ (r .refusal .number ≡ 0 → FacesDemand3 column bolts first second r) ⌝ }
 {
     let one = work_connection(false, column, bolts, first);
-    let why = one.refusal;
-    if why.number != 0 {
-        return refused(why.number, why.field, 1);
+    if one.number != 0 {
+        return refused(one.number, one.field, 1);
     }
     let two = work_connection(false, column, bolts, second);
-    let why_second = two.refusal;
-    if why_second.number != 0 {
-        return refused(why_second.number, why_second.field, 2);
+    if two.number != 0 {
+        return refused(two.number, two.field, 2);
     }
     let result = one.result;
     let other = two.result;

@@ -10,8 +10,7 @@ use Rattle.governing.specs.Governing.{forceOf}
 use Rattle.governing.specs.Cap.{newtonsOf, overCompressed}
 use Rattle.governing.specs.Answers.{capCase}
 use Rattle.connection.specs.OneFace.{governingOf, capOf}
-use Rattle.connection.specs.Connection.{refusalsAfter10, refusedFace}
-use Rattle.outcome.specs.declared.PanelVerdict.the-variants.{NotAsked}
+use Rattle.connection.specs.Connection.{refusalsAfter10, refusedAfter10}
 use Rattle.governing.proofs.Cases.{exceeded, within-cap}
 use Rattle.connection.proofs.work_admitted.Statement.{statement}
 use Rattle.connection.proofs.work_admitted.Tie as tie
@@ -75,27 +74,19 @@ unfolding refusalsAfter10 checksFrom
 returns c =
     let told = c .before in
     let above = exceeded _ _ (sym (told .enum-told .given .1) ∙ cap-is (over told)) in
-    c .refused .ensures ∙ sym (fails _ refusedFace 15 _ _ (ap not above))
+    c .refused .ensures ∙ sym (fails _ refusedAfter10 15 _ _ (ap not above))
 
 result-of-requires : tie.Need-result-of-requires
 result-of-requires c κs = start (under c) .pre
 
-no-result-requires : tie.Need-no-result-requires
-no-result-requires c κs = search needs
-
 returns-2 : tie.Need-returns-2
 unfolding refusalsAfter10 checksFrom
 returns-2 c =
-    let told = c .before .before in
+    let told = c .before in
     let checked = under told .before .before .governing-of .ensures .0 in
-    let result = c .before .result-of .ensures _ (record { governs = checked; newtons = newtons told .1 }) in
-    (λ i. record {
-      refusal = record { number = 0; field = 0; face = 0 };
-      result = result i;
-      other = c .no-result .ensures i;
-      panel = NotAsked;
-    })
-    ∙ sym (holds _ refusedFace 15 _ _ (ap not (newtons told .0)) ∙ none-left _ _)
+    let result = c .result-of .ensures _ (record { governs = checked; newtons = newtons told .1 }) in
+    (λ i. record { number = 0; field = 0; result = result i })
+    ∙ sym (holds _ refusedAfter10 15 _ _ (ap not (newtons told .0)) ∙ none-left _ _)
 
 pub work-admitted-spec : {M : Type 1} → statement M
 work-admitted-spec =
@@ -109,5 +100,4 @@ work-admitted-spec =
     refused-requires
     returns
     result-of-requires
-    no-result-requires
     returns-2)

@@ -55,7 +55,7 @@ returns c =
     let found = sym (told .before .found .given .1) ∙ outside told .check-fields .ensures in
     let face = workedFace (a .panel-counts) (a .column) (boltStrengths (a .bolts)) (a .face) in (
       c .refused .ensures ∙ ap (λ check. workedBy check face) found,
-      (λ none. absurd (omega (arith, refusal-is 10 _ 0 _ (sym (c .refused .ensures)) none))),
+      (λ none. absurd (omega (arith, refusal-is 10 _ _ (sym (c .refused .ensures)) none))),
     )
 
 returns-2 : tie.Need-returns-2

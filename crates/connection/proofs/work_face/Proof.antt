@@ -8,8 +8,8 @@ use Rattle.arithmetic.proofs.Checks.{one-after-another, cut-at, of-each}
 use Rattle.joint.specs.declared.Column.{Column}
 use Rattle.joint.specs.declared.Face.{Face}
 use Rattle.strength.specs.declared.BoltStrengths.{BoltStrengths}
-use Rattle.outcome.specs.declared.Outcome.{Outcome}
-use Rattle.connection.specs.Connection.{refusalsAfter10, completed, resultOf, workedFace, refusedFace}
+use Rattle.outcome.specs.declared.FaceOutcome.{FaceOutcome}
+use Rattle.connection.specs.Connection.{refusalsAfter10, completed, resultOf, workedFace, refusedAfter10}
 use Rattle.connection.specs.Steps.{admittedTo}
 use Rattle.connection.specs.declared.Admission.{Admission}
 use Rattle.connection.specs.declared.Admission.the-variants.{Admitted, Refused}
@@ -19,9 +19,9 @@ use Rattle.connection.proofs.work_face.Tie as tie
 
 -- what an admission comes to is what the face comes to
 module _ (panelCounts : Bool) (column : Column) (bolt : BoltStrengths) (face : Face) where
-  rest : Outcome
+  rest : FaceOutcome
   rest =
-      firstFailing (completed (resultOf panelCounts column bolt face)) refusedFace
+      firstFailing (completed (resultOf panelCounts column bolt face)) refusedAfter10
       (checksFrom 15 (refusalsAfter10 panelCounts column bolt face))
 
   cut : (admission : Admission)
@@ -33,8 +33,8 @@ module _ (panelCounts : Bool) (column : Column) (bolt : BoltStrengths) (face : F
       let passed = completed (resultOf panelCounts column bolt face) in
       ap (admittedTo rest) e
       ∙ of-each (admittedTo rest) Admitted Refused (checksBefore 15 all)
-      ∙ sym (one-after-another passed refusedFace (checksBefore 15 all) (checksFrom 15 all))
-      ∙ ap (firstFailing passed refusedFace) (cut-at 15 all)
+      ∙ sym (one-after-another passed refusedAfter10 (checksBefore 15 all) (checksFrom 15 all))
+      ∙ ap (firstFailing passed refusedAfter10) (cut-at 15 all)
 
 -- ---- the places
 

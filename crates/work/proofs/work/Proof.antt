@@ -4,7 +4,8 @@ use mathlib.Core.Path.{_≡_, sym, ap, subst, _∙_}
 use mathlib.Core.Bool.{true, false}
 use Rattle.joint.specs.Faces.{twoFaced}
 use Rattle.joint.specs.declared.Face.{Face}
-use Rattle.work.specs.Work.{workedFaces}
+use Rattle.outcome.specs.declared.Outcome.{Outcome}
+use Rattle.work.specs.Work.{ofOneFace, workedFaces}
 use Rattle.work.specs.Demand.{FacesDemand3}
 use Rattle.work.proofs.Cases.{of-two, of-one, demand-alone, demand-both}
 use borrow.Author.Needs.{needs}
@@ -52,12 +53,18 @@ returns c =
 work-connection-requires : tie.Need-work-connection-requires
 work-connection-requires c κs = search needs
 
+of-one-face-requires : tie.Need-of-one-face-requires
+of-one-face-requires c κs = search needs
+
 returns-2 : tie.Need-returns-2
 returns-2 c =
-    let one = c .before in
-    let j = start (one .before) .args .joint in (
-      c .work-connection .ensures .0 ∙ of-one j (alone one),
-      (λ none. demand-alone j _ (alone one) (c .work-connection .ensures .1 none)),
+    let worked = c .before in
+    let one = worked .before in
+    let j = start (one .before) .args .joint in
+    let is = c .of-one-face .ensures in (
+      is ∙ ap ofOneFace (worked .work-connection .ensures .0) ∙ of-one j (alone one),
+      (λ none. demand-alone j _ (alone one)
+          (rw is (worked .work-connection .ensures .1 (sym (ap (λ (o : Outcome). o .refusal .number) is) ∙ none)))),
     )
 
 pub work-spec : {M : Type 1} → statement M
@@ -69,4 +76,5 @@ work-spec =
     work-faces-requires
     returns
     work-connection-requires
+    of-one-face-requires
     returns-2)

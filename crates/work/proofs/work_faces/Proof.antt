@@ -1,10 +1,8 @@
 -- `work_faces` meets its contract: each return is a case of the definition, and each face that is taken has demand 3 by its own call.
 -- Assumes nothing.
-use mathlib.Core.Path.{_≡_, sym, ap, _∙_}
-use Rattle.connection.proofs.Answers.{refusal-is}
+use mathlib.Core.Path.{sym, _∙_}
 use Rattle.connection.proofs.Sums.{taken}
-use Rattle.work.specs.Work.{panelVerdict}
-use Rattle.work.proofs.Cases.{first-refused, second-refused, both-taken}
+use Rattle.work.proofs.Cases.{refusal-is, first-refused, second-refused, both-taken}
 use borrow.Author.Needs.{needs}
 use Rattle.work.proofs.work_faces.Statement.{statement}
 use Rattle.work.proofs.work_faces.Tie as tie
@@ -15,13 +13,13 @@ abbrev start : tie.After-work-connection → tie.Start
 start c = c .before
 
 abbrev first-worked : tie.Else1 → tie.After-work-connection
-first-worked c = c .before .before .before
+first-worked c = c .before .before
 
 abbrev first-taken : tie.After-work-connection2 → tie.Else1
 first-taken c = c .before
 
 abbrev second-worked : tie.Else2 → tie.After-work-connection2
-second-worked c = c .before .before .before
+second-worked c = c .before .before
 
 -- ---- the needs
 
@@ -33,11 +31,11 @@ refused-requires c κs = search needs
 
 returns : tie.Need-returns
 returns c =
-    let worked = c .before .before .before .before in
+    let worked = c .before .before .before in
     let a = start worked .args in (
       c .refused .ensures
           ∙ first-refused (a .column) (a .bolts) (a .first) (a .second) (worked .work-connection .ensures .0) (c .before .if1 .taken),
-      (λ none. absurd (c .before .if1 .taken (refusal-is _ _ 1 _ (sym (c .refused .ensures)) none))),
+      (λ none. absurd (c .before .if1 .taken (refusal-is _ _ 1 _ (c .refused .ensures) none))),
     )
 
 work-connection-requires-2 : tie.Need-work-connection-requires-2
@@ -48,14 +46,14 @@ refused-requires-2 c κs = search needs
 
 returns-2 : tie.Need-returns-2
 returns-2 c =
-    let two = c .before .before .before .before in
+    let two = c .before .before .before in
     let one = first-taken two in
     let worked = first-worked one in
     let a = start worked .args in (
       c .refused2 .ensures
           ∙ second-refused (a .column) (a .bolts) (a .first) (a .second) (worked .work-connection .ensures .0) (one .if1 .left)
           (two .work-connection2 .ensures .0) (c .before .if2 .taken),
-      (λ none. absurd (c .before .if2 .taken (refusal-is _ _ 2 _ (sym (c .refused2 .ensures)) none))),
+      (λ none. absurd (c .before .if2 .taken (refusal-is _ _ 2 _ (c .refused2 .ensures) none))),
     )
 
 panel-verdict-requires : tie.Need-panel-verdict-requires
