@@ -34,22 +34,25 @@ use Rattle.jointfile.specs.declared.Written.the-variants.{Length, Refused}
 use Rattle.jointfile.proofs.Ends.{joint-shorter}
 use Rattle.sharing.specs.Groups.{Table}
 use Rattle.sharing.specs.Best.{Best}
+use Rattle.outcome.specs.declared.FaceOutcome.{FaceOutcome}
 use Rattle.outcome.specs.declared.FaceResult.{FaceResult}
 use Rattle.outcome.specs.declared.Outcome.{Outcome}
 use Rattle.outcome.specs.declared.Refusal.{Refusal}
 use Rattle.strength.specs.Bolt.{boltStrengths}
-use Rattle.connection.specs.Connection.{refusedOutcome, refusedFace, refusalsAfter10, workedFace, workedBy, workedConnection}
+use Rattle.connection.specs.Connection.{noResult, refusedAfter10, refusalsAfter10, workedFace, workedBy, workedConnection}
 use Rattle.connection.specs.Demand.{Demand3For}
-use Rattle.work.specs.Work.{ifTaken, bothTaken, workedSecond, workedFaces, worked}
+use Rattle.work.specs.Work.{refusedOutcome, ofOneFace, ifTaken, bothTaken, workedSecond, workedFaces, worked}
 use Rattle.work.specs.Demand.{Demand3Of}
 use Rattle.printer.specs.Sheet.{sheetOf}
 use Rattle.printer.specs.Answers.{printing, printedMeaning}
 use Rattle.printer.specs.declared.Printed.{Printed}
 use Rattle.words.specs.Words.{firstWordCount, jointWordCount, wordsFrom, fieldsOfWords, jointOfWords}
-use Rattle.words.specs.Results.{faceWordCount, flag, figureWords, resultWords, panelFlag, outcomeWords}
-use Rattle.exports.specs.Answers.{answers}
-use Rattle.exports.specs.Calls.{filePut, writingInto, Demand3OfFace, Demand3OfWords, sheetAnswer, sheetingInto}
-use Rattle.exports.proofs.Answers.{taken, refused as answer-refused}
+use Rattle.words.specs.Results.{faceWordCount, outcomeWordCount, flag, figureWords, resultWords, panelFlag}
+use Rattle.words.specs.Results.{oneFaceWords, outcomeWords}
+use Rattle.exports.specs.Answers.{answers, answerNumber}
+use Rattle.exports.specs.Calls.{filePut, writingInto, Demand3OfFace, Demand3OfWords, WorkedInto, sheetAnswer}
+use Rattle.exports.specs.Calls.{sheetingInto}
+use Rattle.exports.proofs.Answers.{turned-down, taken, refused as answer-refused}
 
 -- ---- Rest
 
@@ -138,6 +141,10 @@ pub record Small (refusal : Refusal) : Type 0 where
   pub field : refusal .field ≤ firstWordCount
   pub face : refusal .face ≤ 2
 
+pub record FaceSmall (outcome : FaceOutcome) : Type 0 where
+  pub number : outcome .number ≤ 15
+  pub field : outcome .field ≤ firstWordCount
+
 levers-within : (n row : ℕ) (levers : List ℕ) → row + length levers ≤ 8 → allWithin 1 firstWordCount (leverChecks n row levers) ≡ true
 unfolding leverChecks allWithin
 levers-within n row [] few = refl
@@ -156,29 +163,27 @@ module _ (panelCounts : Bool) (column : Column) (bolts : Bolts) (face : Face) wh
       (levers-within (face .rows) 0 (face .levers) (omega arith)) (omega arith) (λ number low high. high))
       (λ number low high. high))
 
-  face-small : Small (workedFace panelCounts column (boltStrengths bolts) face .refusal)
+  face-small : FaceSmall (workedFace panelCounts column (boltStrengths bolts) face)
   unfolding workedFace refusalsAfter10 allWithin
   face-small =
-      by-number (λ (o : Outcome). Small (o .refusal)) 11 15 _ refusedFace _ refl
-      (record { number = omega arith; field = omega arith; face = omega arith })
-      (λ number low high. record { number = high; field = omega arith; face = omega arith })
+      by-number FaceSmall 11 15 _ refusedAfter10 _ refl (record { number = omega arith; field = omega arith })
+      (λ number low high. record { number = high; field = omega arith })
 
-  connection-small : length (face .levers) ≡ 8 → Small (workedConnection panelCounts column bolts face .refusal)
+  connection-small : length (face .levers) ≡ 8 → FaceSmall (workedConnection panelCounts column bolts face)
   unfolding workedConnection
   connection-small eight = go (fieldCheck column bolts face) (field-small eight)
     where
       go : (found : FieldCheck) → fieldOf found ≤ firstWordCount
-          → Small (workedBy found (workedFace panelCounts column (boltStrengths bolts) face) .refusal)
+          → FaceSmall (workedBy found (workedFace panelCounts column (boltStrengths bolts) face))
       go AllInRange small = face-small
-      go (Outside field) small = record { number = omega arith; field = small; face = omega arith }
+      go (Outside field) small = record { number = omega arith; field = small }
 
 -- of a face and what comes after it
-if-small : (face : ℕ) (outcome : Outcome) (next : FaceResult → Outcome) → face ≤ 2 → Small (outcome .refusal)
+if-small : (face : ℕ) (outcome : FaceOutcome) (next : FaceResult → Outcome) → face ≤ 2 → FaceSmall outcome
     → ((result : FaceResult) → Small (next result .refusal)) → Small (ifTaken face outcome next .refusal)
-if-small face outcome next few small after = go (eqb (outcome .refusal .number) 0)
+if-small face outcome next few small after = go (eqb (outcome .number) 0)
   where
-    go : (t : Bool)
-        → Small (cond t (next (outcome .result)) (refusedOutcome (outcome .refusal .number) (outcome .refusal .field) face) .refusal)
+    go : (t : Bool) → Small (cond t (next (outcome .result)) (refusedOutcome (outcome .number) (outcome .field) face) .refusal)
     go true = after (outcome .result)
     go false = record { number = small .number; field = small .field; face = few }
 
@@ -191,20 +196,16 @@ work-small joint eight eight′ = go (twoFaced (joint .face .rows))
 
     go : (t : Bool)
         → Small (cond t (workedFaces (joint .column) (joint .bolts) first (joint .other))
-        (workedConnection true (joint .column) (joint .bolts) first) .refusal)
+        (ofOneFace (workedConnection true (joint .column) (joint .bolts) first)) .refusal)
     go true =
         if-small 1 (workedConnection false (joint .column) (joint .bolts) first) (workedSecond (joint .column) (joint .bolts) first (joint .other)) (omega arith)
         (connection-small false (joint .column) (joint .bolts) first eight)
         (λ result. if-small 2 (workedConnection false (joint .column) (joint .bolts) (joint .other)) (bothTaken (joint .column) first (joint .other) result) (omega arith)
         (connection-small false (joint .column) (joint .bolts) (joint .other) eight′)
         (λ other. record { number = omega arith; field = omega arith; face = omega arith }))
-    go false = connection-small true (joint .column) (joint .bolts) first eight
-
--- field 1 is the first word
-pub first-word : (fields : List ℕ) → getD (fieldsOfWords 26 (wordsFrom 0 fieldCount fields)) 0 0 ≡ getD fields 0 0
-unfolding fieldsOfWords
-first-word fields =
-    getD-set-other (take fieldCount fields) 26 0 _ 0 (λ same. absurd (omega arith)) ∙ getD-take fieldCount fields 0 0 (omega arith)
+    go false =
+        let small = connection-small true (joint .column) (joint .bolts) first eight in
+        record { number = small .number; field = small .field; face = omega arith }
 
 eight-words : (from : ℕ) (fields : List ℕ) → from + 8 ≤ length fields → length (wordsFrom from 8 fields) ≡ 8
 eight-words from fields room = length-take-le 8 (drop from fields) (omega (arith, length-drop from fields))
@@ -216,6 +217,37 @@ refusal-small fields room is =
     rw is
     (work-small (jointOfWords fields) (eight-words fieldCount fields (omega (arith, room)))
     (eight-words (firstWordCount + ownCount) fields (omega (arith, room))))
+
+-- field 1 is the first word
+pub first-word : (fields : List ℕ) → getD (fieldsOfWords 26 (wordsFrom 0 fieldCount fields)) 0 0 ≡ getD fields 0 0
+unfolding fieldsOfWords
+first-word fields =
+    getD-set-other (take fieldCount fields) 26 0 _ 0 (λ same. absurd (omega arith)) ∙ getD-take fieldCount fields 0 0 (omega arith)
+
+-- what is answered and left, by what the joint comes to
+module _ (fields words : List ℕ) (room : jointWordCount ≤ length fields) (places : outcomeWordCount ≤ length words) {outcome : Outcome}
+    (is : outcome ≡ worked (jointOfWords fields)) where
+  enough : (leb jointWordCount (length fields) && leb outcomeWordCount (length words)) ≡ true
+  enough = simp (le-leb jointWordCount (length fields) room, le-leb outcomeWordCount (length words) places)
+
+  pub work-refused : (outcome .refusal .number ≡ 0 → ⊥) → {answer : ℕ}
+      → answer ≡ answerNumber (outcome .refusal .number) (outcome .refusal .field) (outcome .refusal .face)
+      → WorkedInto fields words words answer
+  work-refused some {answer} e =
+      record {
+        equals = turned-down _ _ _ _ _ enough (λ none. some (ap (λ (o : Outcome). o .refusal .number) is ∙ none))
+            (e ∙ ap (λ (o : Outcome). answerNumber (o .refusal .number) (o .refusal .field) (o .refusal .face)) is);
+        demand = λ none. absurd (some (omega (arith, e, none)));
+      }
+
+  pub work-put : outcome .refusal .number ≡ 0 → {exit : List ℕ} → exit ≡ atFront (outcomeWords outcome) words
+      → Demand3OfWords (jointOfWords fields) (atFront (outcomeWords outcome) words) → WorkedInto fields words exit 0
+  work-put none front demand =
+      record {
+        equals = taken _ _ _ _ _ enough (sym (ap (λ (o : Outcome). o .refusal .number) is) ∙ none)
+            (front ∙ ap (λ (o : Outcome). atFront (outcomeWords o) words) is);
+        demand = λ zero. rw front demand;
+      }
 
 -- ---- Sheet
 
@@ -295,3 +327,8 @@ demand-words words joint outcome eight eight′ demand =
           rw (second-words words outcome eight)
           (of-words false joint (joint .other) (outcome .other) (after-second words outcome) eight′ (demand .two-faces two .of-second));
     }
+
+-- the words of a joint with one face
+pub one-face-words : (outcome : FaceOutcome) → oneFaceWords (outcome .result) ≡ outcomeWords (ofOneFace outcome)
+unfolding figureWords
+one-face-words outcome = sym (append-assoc (resultWords (outcome .result)) (resultWords noResult) (0 ∷ []))

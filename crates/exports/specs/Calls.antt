@@ -77,6 +77,11 @@ pub record Demand3OfWords (joint : Joint) (words : List ℕ) : Type 0 where
   pub first-of-two : twoFaced (joint .face .rows) ≡ true → Demand3OfFace false joint (firstFace (joint .face)) words
   pub second-of-two : twoFaced (joint .face .rows) ≡ true → Demand3OfFace false joint (joint .other) (drop faceWordCount words)
 
+-- What working a joint's words answers and leaves, with demand 3 where it isn't refused.
+pub record WorkedInto (fields entry exit : List ℕ) (answer : ℕ) : Type 0 where
+  pub equals : answers answer exit ≡ workingInto fields entry
+  pub demand : answer ≡ 0 → Demand3OfWords (jointOfWords fields) exit
+
 -- rule 13.1: 101 says that there is no room for all lines
 abbrev pub sheetAnswer : (size : ℕ) → Printing → Answered BufferFront
 sheetAnswer size (whole total output) = answers 0 (record { bytes = output; size = total })

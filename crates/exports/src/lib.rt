@@ -8,21 +8,20 @@
 // `R 4` too, and answered 0.
 ghost use mathlib.Core.Path.{_≡_};
 ghost use Prim.Native.Nat.{_≤_};
-ghost use lib.ListN.{length, take};
+ghost use mathlib.Core.Bool.{false};
+ghost use lib.ListN.{length, getD, take};
 ghost use Rattle.jointfile.specs.File.{reading};
 ghost use Rattle.sharing.specs.Groups.{listed};
 ghost use Rattle.sharing.specs.Best.{Best};
-ghost use Rattle.work.specs.Work.{worked};
-ghost use Rattle.work.specs.Demand.{Demand3Of};
+ghost use Rattle.joint.specs.Faces.{twoFaced};
 ghost use Rattle.words.specs.Words.{jointWordCount, jointOfWords};
+ghost use Rattle.words.specs.Results.{outcomeWordCount};
 ghost use Rattle.exports.specs.Answers.{answers};
 ghost use Rattle.exports.specs.Calls.{allocating, kindOf, readingInto, writingInto, workingInto};
-ghost use Rattle.exports.specs.Calls.{Demand3OfWords, sheetingInto};
-use connection::work_connection;
+ghost use Rattle.exports.specs.Calls.{Demand3OfWords, WorkedInto, sheetingInto};
 use joint::is_two_faced;
 use jointfile::FileKind;
 use jointfile::Written;
-use outcome::Outcome;
 use printer::Printed;
 use words::joints::JOINT_WORDS;
 use words::results::OUTCOME_WORDS;
@@ -116,18 +115,35 @@ pub extern "C" fn jinqewan_write(fields: &[u32], buffer: &mut [u8], length: &mut
     }
 }
 
-// A joint's words worked. Where there is one face, nothing of a second is made of them.
-fn work_words(fields: &[u32]) -> Outcome
-    requires { ⌜ jointWordCount ≤ length (now fields) ⌝ }
-    ensures equals { λ r. ⌜ r ≡ worked (jointOfWords (now (fields .entry))) ⌝ }
-    ensures demand { λ r. ⌜ (r .refusal .number ≡ 0 → Demand3Of (jointOfWords (now (fields .entry))) r) ⌝ }
+// Works a joint with two faces, whose words and places are enough.
+fn work_two_faces(fields: &[u32], result: &mut [u64]) -> u32
+    requires { ⌜ (jointWordCount ≤ length (now fields)) × (outcomeWordCount ≤ length (now result)) ⌝ }
+    ensures { λ r. ⌜ WorkedInto (now (fields .entry)) (now (result .entry)) (now (result .exit)) r ⌝ }
 {
-    if is_two_faced(fields[0]) {
-        return work::work(words::joints::joint_of(fields));
+    let worked = work::work(words::joints::joint_of(fields));
+    let refusal = worked.refusal;
+    if refusal.number != 0 {
+        return refusal.number + 256 * refusal.field + 65536 * refusal.face;
     }
+    words::results::put_outcome(worked, result);
+    0
+}
+
+// Works a joint with one face, whose words and places are enough. Nothing of a second face is made of them.
+fn work_one_face(fields: &[u32], result: &mut [u64]) -> u32
+    requires { ⌜ (jointWordCount ≤ length (now fields)) × (outcomeWordCount ≤ length (now result)) ⌝ }
+    requires { ⌜ twoFaced (getD (now fields) 0 0) ≡ false ⌝ }
+    ensures { λ r. ⌜ WorkedInto (now (fields .entry)) (now (result .entry)) (now (result .exit)) r ⌝ }
+{
     let joint = words::joints::one_faced_of(fields);
     let face = joint.face;
-    work_connection(true, joint.column, joint.bolts, face)
+    let worked = connection::work_connection(true, joint.column, joint.bolts, face);
+    if worked.number != 0 {
+        return worked.number + 256 * worked.field;
+    }
+    let of_face = worked.result;
+    words::results::put_one_face(of_face, result);
+    0
 }
 
 // Work: the result's words go to the first places, and its forces are the best there are: demand 3.
@@ -142,13 +158,10 @@ pub extern "C" fn jinqewan_work(fields: &[u32], result: &mut [u64]) -> u32
     if result.len() < OUTCOME_WORDS {
         return SHORT;
     }
-    let worked = work_words(fields);
-    let refusal = worked.refusal;
-    if refusal.number != 0 {
-        return refusal.number + 256 * refusal.field + 65536 * refusal.face;
+    if is_two_faced(fields[0]) {
+        return work_two_faces(fields, result);
     }
-    words::results::put_outcome(worked, result);
-    0
+    work_one_face(fields, result)
 }
 
 // Sheet: the lines go to the output's front and their length to `length`.

@@ -1,2 +1,3 @@
 -- The laws of copying, which the proofs of several functions use, here and in the crate of calls. Assumes nothing.
 pub mod Copies
+pub mod Lengths

@@ -5,7 +5,7 @@ ghost use lib.ListN.{length};
 ghost use lib.Seq.{sets};
 ghost use Rattle.buffers.specs.Put.{atFront};
 ghost use Rattle.words.specs.Results.{faceWordCount, outcomeWordCount, checkNumber, flag, figureWords, resultWords};
-ghost use Rattle.words.specs.Results.{panelFlag, outcomeWords};
+ghost use Rattle.words.specs.Results.{panelFlag, oneFaceWords, outcomeWords};
 use crate::put::put_eight_u64;
 use crate::put::put_u64;
 use governing::CompressionCheck;
@@ -81,6 +81,16 @@ fn panel_flag(panel: PanelVerdict) -> u64
         PanelVerdict::Passes => 1,
         PanelVerdict::Fails => 0,
     }
+}
+
+// Puts the words of the one face that there is at the front of a slice, and 0 for a second face and the panel.
+pub fn put_one_face(result: FaceResult, words: &mut [u64])
+    requires { ⌜ outcomeWordCount ≤ length (now words) ⌝ }
+    ensures { λ _. ⌜ (length (result .forces) ≡ 8) × (now (words .exit) ≡ atFront (oneFaceWords result) (now (words .entry))) ⌝ }
+{
+    let none = [0; FACE_WORDS + 1];
+    put_result(words, 0, result);
+    put_u64(words, FACE_WORDS, &none);
 }
 
 // Puts the words of an outcome at the front of a slice.

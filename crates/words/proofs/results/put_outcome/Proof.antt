@@ -11,13 +11,10 @@ use Rattle.buffers.proofs.Puts.{sets-append}
 use Rattle.outcome.specs.declared.FaceResult.{FaceResult}
 use Rattle.words.specs.Results.{faceWordCount, figureWords, resultWords, panelFlag}
 use Rattle.words.proofs.Copies.{copied-after}
+use Rattle.words.proofs.Lengths.{result-length}
 use borrow.Author.Needs.{needs}
 use Rattle.words.proofs.results.put_outcome.Statement.{statement}
 use Rattle.words.proofs.results.put_outcome.Tie as tie
-
-result-length : (result : FaceResult) → length (result .forces) ≡ 8 → length (resultWords result) ≡ faceWordCount
-unfolding figureWords
-result-length result eight = rw (length-append (result .forces) (figureWords result)) (omega (arith, eight))
 
 panel-flag-requires : tie.Need-panel-flag-requires
 panel-flag-requires c κs = search needs
