@@ -175,14 +175,15 @@ joint-I axial = record {
 file-I : FileKind → List ℕ
 file-I kind = file kind (joint-I (pos 0))
 
--- what the sheet program prints of it, in ASCII: `1 1 219345 219345 52642 407706 K P P P P` and a line feed
+-- what the sheet program prints of it, in ASCII: `1 1 219345 219345 52642 407706 K P P P P`, whatever letters follow, and a line feed
+line-I : (letters : List ℕ) → List ℕ
+line-I letters =
+    49 ∷ 32 ∷ 49 ∷ 32 ∷ 50 ∷ 49 ∷ 57 ∷ 51 ∷ 52 ∷ 53 ∷ 32 ∷ 50 ∷ 49 ∷ 57 ∷ 51 ∷ 52 ∷ 53 ∷ 32 ∷ 53 ∷ 50 ∷ 54 ∷ 52 ∷ 50
+    ∷ 32 ∷ 52 ∷ 48 ∷ 55 ∷ 55 ∷ 48 ∷ 54 ∷ 32 ∷ 75 ∷ 32 ∷ 80 ∷ 32 ∷ 80 ∷ 32 ∷ 80 ∷ 32 ∷ 80 ∷ letters ++ (10 ∷ [])
+
 checked-I : Checked
-unfolding joint-I file-I
-checked-I = record {
-  given = sheetOf (file-I New);
-  stated = 49 ∷ 32 ∷ 49 ∷ 32 ∷ 50 ∷ 49 ∷ 57 ∷ 51 ∷ 52 ∷ 53 ∷ 32 ∷ 50 ∷ 49 ∷ 57 ∷ 51 ∷ 52 ∷ 53 ∷ 32 ∷ 53 ∷ 50 ∷ 54 ∷ 52 ∷ 50
-      ∷ 32 ∷ 52 ∷ 48 ∷ 55 ∷ 55 ∷ 48 ∷ 54 ∷ 32 ∷ 75 ∷ 32 ∷ 80 ∷ 32 ∷ 80 ∷ 32 ∷ 80 ∷ 32 ∷ 80 ∷ 10 ∷ [];
-}
+unfolding joint-I file-I line-I
+checked-I = record { given = sheetOf (file-I New); stated = line-I [] }
 
 -- N at the governing force and a newton above it: refusal, then the first row's force
 pushed : ℤ → List ℕ
@@ -217,15 +218,13 @@ both-I first second = record {
   other = face-I 1 second;
 }
 
--- I's line with the panel's P, for each face
-line-I : List ℕ
-line-I =
-    49 ∷ 32 ∷ 49 ∷ 32 ∷ 50 ∷ 49 ∷ 57 ∷ 51 ∷ 52 ∷ 53 ∷ 32 ∷ 50 ∷ 49 ∷ 57 ∷ 51 ∷ 52 ∷ 53 ∷ 32 ∷ 53 ∷ 50 ∷ 54 ∷ 52 ∷ 50
-    ∷ 32 ∷ 52 ∷ 48 ∷ 55 ∷ 55 ∷ 48 ∷ 54 ∷ 32 ∷ 75 ∷ 32 ∷ 80 ∷ 32 ∷ 80 ∷ 32 ∷ 80 ∷ 32 ∷ 80 ∷ 32 ∷ 80 ∷ 10 ∷ []
-
+-- its line for each face, with the panel's P
 checked-I-both : Checked
 unfolding both-I line-I
-checked-I-both = record { given = sheetOf (file New (both-I (pos 0) (pos 0))); stated = line-I ++ line-I }
+checked-I-both = record {
+  given = sheetOf (file New (both-I (pos 0) (pos 0)));
+  stated = line-I (32 ∷ 80 ∷ []) ++ line-I (32 ∷ 80 ∷ []);
+}
 
 -- the refusal, its face and the panel's verdict: 1 passes, 2 fails, 0 isn't asked
 panel-number : PanelVerdict → ℕ
