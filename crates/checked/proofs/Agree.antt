@@ -50,6 +50,7 @@ unfolding table firstFailing search-from leverChecks fixedChecks fieldChecks fie
     bearingLength beamFlange webBearing bucklingLimit webBuckling reducedNearEnd panelShear resistancesOf
     lesser governingCheck tensionCap overCompressed
     carries bearing idlePair pullingPair boltTotal boltsPass topRows flangeWeldBy webWeldPasses leversFall rowsInPlace tooTight
-    governingTotal panelPasses governingOf capOf forcesOf refusalsAfter10 resultOf workedFace workedConnection panelVerdict workedFaces worked
+    governingTotal panelPasses governingOf capOf forcesOf refusalsAfter10 resultOf workedFace workedConnection
+    panelVerdict workedFaces worked
     digits spaced resultLine outcomeLines linesWithin sheetLines concatenated
 all-agree = refl

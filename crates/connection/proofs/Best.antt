@@ -68,7 +68,8 @@ module _ (panelCounts : Bool) (column : Column) (bolt : BoltStrengths) (face : F
   unfolding limit-and-cap
   under other c =
       let kept = rw cap at (c .capped) in
-      cap-is-a-limit (limitOf column bolt face) (rowsOf face) (newtonsOf (capOf panelCounts column face)) other .1 (c .limits, leb→le _ _ (kept .le))
+      cap-is-a-limit (limitOf column bolt face) (rowsOf face) (newtonsOf (capOf panelCounts column face)) other .1
+      (c .limits, leb→le _ _ (kept .le))
 
   over : (other : List ℕ) → Competes limit-and-cap (rowsOf face) other → CompetesFor panelCounts column bolt face other
   unfolding limit-and-cap
@@ -85,7 +86,8 @@ module _ (panelCounts : Bool) (column : Column) (bolt : BoltStrengths) (face : F
   unfolding forcesOf limit-and-cap
   of-forces forces e = rw e at (best limit-and-cap (rowsOf face))
 
-  demand : Demand3 panelCounts column bolt face (resultOf panelCounts column bolt face .forces) (resultOf panelCounts column bolt face .verdicts .bending)
+  demand : let result = resultOf panelCounts column bolt face in
+      Demand3 panelCounts column bolt face (result .forces) (result .verdicts .bending)
   unfolding resultOf
   demand =
       let list = programsList face (resultOf panelCounts column bolt face .forces) in

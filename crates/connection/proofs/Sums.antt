@@ -1,7 +1,7 @@
 -- The sum of a face's forces is at most its cap, and so is small enough for what is reckoned with it. Assumes nothing.
-use mathlib.Core.Path.{_≡_, sym, ap, _∙_}
+use mathlib.Core.Path.{_≡_, sym, ap}
 use mathlib.Core.Bool.{Bool}
-use Prim.Native.Nat.{ℕ, _+_, _^_, _≤_, _<_}
+use Prim.Native.Nat.{_+_, _^_, _≤_, _<_}
 use native.Mathlib.Omega.{arith}
 use Rattle.joint.specs.InRange.{ColumnInRange, FaceInRange, InRange}
 use Rattle.joint.specs.Ranges.{loads}
@@ -55,4 +55,5 @@ taken panelCounts column bolts face answer e none =
     let bolt = boltStrengths bolts in
     let whole = not-refused panelCounts column bolt face answer (inside .1) none .1 in
     let sum : answer .result .sum ≡ total (forcesOf panelCounts column bolt face) = ap (λ a. a .result .sum) (sym whole) in
-    (inside .0, omega (arith, sum, sum-le-cap panelCounts column face bolt, cap-small panelCounts column face (inside .0 .column) (inside .0 .face)))
+    let small = cap-small panelCounts column face (inside .0 .column) (inside .0 .face) in
+    (inside .0, omega (arith, sum, sum-le-cap panelCounts column face bolt, small))

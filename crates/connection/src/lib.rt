@@ -44,7 +44,8 @@ pub enum Admission {
     Refused(u32),
 }
 
-// Works any face on its column: the whole result, or the first refusal in their order that holds. Panel shear counts in the cap, or not. The row forces are the best there are: demand 3, in specs/Demand.antt.
+// Works any face on its column: the whole result, or the first refusal in their order that holds. Panel shear counts in the cap, or not.
+// The row forces are the best there are: demand 3, in specs/Demand.antt.
 pub fn work_connection(panel_counts: bool, column: Column, bolts: Bolts, face: Face) -> FaceOutcome
     ensures equals { λ r. ⌜ r ≡ workedConnection «panel_counts» column bolts face ⌝ }
     ensures demand { λ r. ⌜ (r .number ≡ 0 → Demand3For «panel_counts» column bolts face (r .result)) ⌝ }
@@ -113,7 +114,8 @@ fn measures_of(column: Column, face: Face) -> Measures
 // The refusals between 10 and 15.
 fn admit(column: Column, bolt: BoltStrengths, face: Face, measures: Measures) -> Admission
     requires { ⌜ AdmitAsked column bolt face measures ⌝ }
-    ensures { λ r. ⌜ ((panelCounts : Bool) → r ≡ firstFailing Admitted Refused (checksBefore 15 (refusalsAfter10 panelCounts column bolt face))) ⌝ }
+    ensures { λ r. ⌜ ((panelCounts : Bool)
+        → r ≡ firstFailing Admitted Refused (checksBefore 15 (refusalsAfter10 panelCounts column bolt face))) ⌝ }
     ensures { λ _. ⌜ length (face .levers) ≡ rowCounts .high ⌝ }
 {
     let levers = face.levers;

@@ -198,9 +198,11 @@ work-small joint eight eight′ = go (twoFaced (joint .face .rows))
         → Small (cond t (workedFaces (joint .column) (joint .bolts) first (joint .other))
         (ofOneFace (workedConnection true (joint .column) (joint .bolts) first)) .refusal)
     go true =
-        if-small 1 (workedConnection false (joint .column) (joint .bolts) first) (workedSecond (joint .column) (joint .bolts) first (joint .other)) (omega arith)
+        if-small 1 (workedConnection false (joint .column) (joint .bolts) first)
+        (workedSecond (joint .column) (joint .bolts) first (joint .other)) (omega arith)
         (connection-small false (joint .column) (joint .bolts) first eight)
-        (λ result. if-small 2 (workedConnection false (joint .column) (joint .bolts) (joint .other)) (bothTaken (joint .column) first (joint .other) result) (omega arith)
+        (λ result. if-small 2 (workedConnection false (joint .column) (joint .bolts) (joint .other))
+        (bothTaken (joint .column) first (joint .other) result) (omega arith)
         (connection-small false (joint .column) (joint .bolts) (joint .other) eight′)
         (λ other. record { number = omega arith; field = omega arith; face = omega arith }))
     go false =

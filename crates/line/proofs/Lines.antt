@@ -135,7 +135,9 @@ module _ (refusal : Refusal) where
 pub concatenated-append : (lines others : List Line) → concatenated (lines ++ others) ≡ concatenated lines ++ concatenated others
 unfolding concatenated
 concatenated-append [] others = refl
-concatenated-append (line ∷ lines) others = ap (λ (l : List ℕ). line ++ l) (concatenated-append lines others) ∙ sym (append-assoc line (concatenated lines) (concatenated others))
+concatenated-append (line ∷ lines) others =
+    ap (λ (l : List ℕ). line ++ l) (concatenated-append lines others)
+    ∙ sym (append-assoc line (concatenated lines) (concatenated others))
 
 pub one-line : (line : Line) → concatenated (line ∷ []) ≡ line
 unfolding concatenated
@@ -188,7 +190,8 @@ module _ (number rows otherRows : ℕ) (outcome : Outcome) where
   unfolding concatenated
   first-room at room all =
       let first = resultLine number rows (outcome .result) (outcome .panel) in
-      omega (arith, length-append first (concatenated (cond (isAsked (outcome .panel)) (resultLine number otherRows (outcome .other) (outcome .panel) ∷ []) [])))
+      let second = cond (isAsked (outcome .panel)) (resultLine number otherRows (outcome .other) (outcome .panel) ∷ []) [] in
+      omega (arith, length-append first (concatenated second))
 
   -- there are two lines at most, and one where the panel isn't asked
   pub outcome-few : length (outcomeLines number rows otherRows outcome) ≤ cond (isAsked (outcome .panel)) 2 1

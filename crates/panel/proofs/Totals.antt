@@ -1,10 +1,8 @@
 -- Totals raised by the greatest tension: they aren't below 0, and differ as the totals do. Assumes nothing.
-use mathlib.Core.Path.{_≡_, refl, sym, ap, ap₂, _∙_}
-use mathlib.Core.Bool.{Bool, true, false, cond}
+use mathlib.Core.Path.{_≡_, sym, ap, ap₂, _∙_}
 use Prim.Native.Nat.{ℕ, zero, suc, _+_, _-_, _≤_, _<_}
-use native.Mathlib.Nat.{add-zero, sub-zero}
 use native.Mathlib.Omega.{arith}
-use lib.Dec.{leb, ltb}
+use lib.Dec.{leb}
 use lib.IntN.{ℤ, pos, negsuc, natAbs, negℤ, _+ℤ_, _-ℤ_, +ℤ-assoc, +ℤ-comm, +ℤ-invr, +ℤ-idr, negℤ-+ℤ}
 use borrow.Author.Tests.{lt-ltb, le-ltb}
 use Rattle.joint.specs.Axial.{axialForce}
@@ -18,7 +16,8 @@ use Rattle.panel.specs.Asked.{Raised}
 -- ---- a total by the sign of N
 
 module _ (sum : ℕ) (forces : Loads) where
-  pub raised-by-compression : (n : ℕ) → axialForce (forces .axial) ≡ Compression n → Raised (governingTotal sum forces) (sum + loads .high + n)
+  pub raised-by-compression : (n : ℕ) → axialForce (forces .axial) ≡ Compression n
+      → Raised (governingTotal sum forces) (sum + loads .high + n)
   unfolding governingTotal
   raised-by-compression n e =
       rw (is-compression (forces .axial) n e) (ap pos (let same : sum + loads .high + n ≡ sum + n + loads .high = omega arith in same))

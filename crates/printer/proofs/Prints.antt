@@ -86,11 +86,13 @@ module _ {input : List ℕ} {from number size : ℕ} (head : WalkHead input from
     walk-onward = rw is (next-positive (drop from input) some-left)
 
     -- the lines left are that of the next joint and the others
-    pub lines-here : linesFrom input from number ≡ concatenated (readingLines number answer) ++ linesFrom input (from + answer .next) (number + 1)
+    pub lines-here : linesFrom input from number
+        ≡ concatenated (readingLines number answer) ++ linesFrom input (from + answer .next) (number + 1)
     lines-here =
         rw is
         (ap concatenated (lines-next number (drop from input) some-left) ∙ concatenated-append _ _
-        ∙ ap (λ (bytes : List ℕ). concatenated (readingLines number (reading sheetKind (drop from input))) ++ concatenated (linesOf (number + 1) bytes))
+        ∙ ap (λ (bytes : List ℕ).
+        concatenated (readingLines number (reading sheetKind (drop from input))) ++ concatenated (linesOf (number + 1) bytes))
         (drop-drop (reading sheetKind (drop from input) .next) from input))
 
     sizes-here : length (linesFrom input from number)

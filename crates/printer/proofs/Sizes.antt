@@ -2,7 +2,7 @@
 -- So an output of `mostSheet` bytes holds any sheet. Assumes nothing.
 use Prim.Native.Nat.{ℕ, zero, suc, _+_, _-_, _*_, _≤_}
 use mathlib.Core.Path.{_≡_, refl, ap}
-use mathlib.Core.List.{List, [], _∷_, _++_}
+use mathlib.Core.List.{List, [], _∷_}
 use mathlib.Core.Bool.{Bool, true, false, cond}
 use native.Mathlib.Omega.{arith}
 use borrow.Author.Tests.{ltb-false, le-leb}
@@ -84,7 +84,8 @@ lines-short (suc most) number (byte ∷ bytes) = go (lines-short most (number + 
         ≤ mostLine * length (linesThen (linesWithin most (number + 1)) number parse)
     go short (got joint left) =
         let others = linesWithin most (number + 1) left in
-        rw (concatenated-append (jointLines number joint) others, length-append (concatenated (jointLines number joint)), length-append (jointLines number joint) others)
+        let lines = jointLines number joint in
+        rw (concatenated-append lines others, length-append (concatenated lines), length-append lines others)
         (omega (arith, short left, outcome-short number (firstRows (joint .face .rows)) (joint .other .rows) (worked joint)))
     go short (refused r) = rw length-append (omega (arith, refusal-short number (r ∷ []) (omega arith)))
 

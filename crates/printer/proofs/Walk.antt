@@ -45,7 +45,8 @@ unfolding linesWithin
 lines-none number = refl
 
 pub lines-next : (number : ℕ) (bytes : List ℕ) → 0 < length bytes
-    → linesOf number bytes ≡ readingLines number (reading sheetKind bytes) ++ linesOf (number + 1) (drop (reading sheetKind bytes .next) bytes)
+    → linesOf number bytes
+    ≡ readingLines number (reading sheetKind bytes) ++ linesOf (number + 1) (drop (reading sheetKind bytes .next) bytes)
 unfolding linesWithin readingLines
 lines-next number [] some = absurd (omega arith)
 lines-next number (byte ∷ bytes) some = go (eqb (reading sheetKind input .refusal) 0) refl

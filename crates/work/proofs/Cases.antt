@@ -36,7 +36,8 @@ refusal-is number field face answer e none = sym (ap (λ (o : Outcome). o .refus
 
 -- ---- two faces, one after the other
 
-module _ (column : Column) (bolts : Bolts) (first second : Face) {one : FaceOutcome} (e : one ≡ workedConnection false column bolts first) where
+module _ (column : Column) (bolts : Bolts) (first second : Face) {one : FaceOutcome}
+    (e : one ≡ workedConnection false column bolts first) where
   pub first-refused : (one .number ≡ 0 → ⊥)
       → refusedOutcome (one .number) (one .field) 1 ≡ workedFaces column bolts first second
   unfolding workedFaces
@@ -46,12 +47,14 @@ module _ (column : Column) (bolts : Bolts) (first second : Face) {one : FaceOutc
     pub second-refused : (two .number ≡ 0 → ⊥)
         → refusedOutcome (two .number) (two .field) 2 ≡ workedFaces column bolts first second
     unfolding workedFaces
-    second-refused some = if-refused 2 (bothTaken column first second (one .result)) e′ some ∙ if-taken 1 (workedSecond column bolts first second) e none
+    second-refused some =
+        if-refused 2 (bothTaken column first second (one .result)) e′ some ∙ if-taken 1 (workedSecond column bolts first second) e none
 
     pub both-taken : two .number ≡ 0
         → bothTaken column first second (one .result) (two .result) ≡ workedFaces column bolts first second
     unfolding workedFaces
-    both-taken none′ = if-taken 2 (bothTaken column first second (one .result)) e′ none′ ∙ if-taken 1 (workedSecond column bolts first second) e none
+    both-taken none′ =
+        if-taken 2 (bothTaken column first second (one .result)) e′ none′ ∙ if-taken 1 (workedSecond column bolts first second) e none
 
 -- ---- one face alone
 

@@ -1,6 +1,6 @@
 -- Working a joint (rules 11): a face on its own, or two of them and the panel between them. Assumes nothing.
 use Prim.Native.Nat.{ℕ}
-use mathlib.Core.Bool.{Bool, true, false, cond}
+use mathlib.Core.Bool.{true, false, cond}
 use lib.Dec.{eqb}
 use Rattle.joint.specs.Faces.{twoFaced, firstFace}
 use Rattle.joint.specs.declared.Bolts.{Bolts}

@@ -23,7 +23,9 @@ returns c =
     let a = start .args in
     let check = c .governing-check .ensures ∙ ap (governingCheck (a .panel-counts)) (c .before .resistances-of .ensures) in
     let resistances = resistancesOf (a .steel) (a .column) (a .face .beam) (a .face .plate) (a .face .welds) in (
-      check ∙ ap (λ y. governingCheck (a .panel-counts) (resistancesOf y (a .column) (a .face .beam) (a .face .plate) (a .face .welds))) (start .pre .1),
+      check
+          ∙ ap (λ y. governingCheck (a .panel-counts) (resistancesOf y (a .column) (a .face .beam) (a .face .plate) (a .face .welds)))
+          (start .pre .1),
       omega (arith, ap forceOf check, governing-le-bearing (a .panel-counts) resistances, bearing-le _ _ _ _ _ (start .pre .0)),
     )
 

@@ -35,7 +35,9 @@ pulling : (s : tie.Start) → s .args .tally .pulling ≡ pullingRows (take (s .
 pulling s = ap (λ t. t .pulling) (s .pre .tallied)
 
 few-pull : (s : tie.Start) → s .args .tally .pulling ≤ s .args .face .rows
-few-pull s = omega (arith, pulling s, pulling-le (s .args .column) (s .args .bolt) (s .args .face) (take (s .args .face .rows) (s .args .forces)) (s .pre .rows))
+few-pull s =
+    let forces = take (s .args .face .rows) (s .args .forces) in
+    omega (arith, pulling s, pulling-le (s .args .column) (s .args .bolt) (s .args .face) forces (s .pre .rows))
 
 -- ---- the needs
 

@@ -1,5 +1,5 @@
--- `work_connection` meets its contract: a field out of range is refusal 10, and else what the face comes to; and an answer that is no refusal has
--- demand 3, as the definition has it. Assumes nothing.
+-- `work_connection` meets its contract: a field out of range is refusal 10, and else what the face comes to; and an answer that is no
+-- refusal has demand 3, as the definition has it. Assumes nothing.
 use mathlib.Core.Path.{sym, ap, _∙_}
 use native.Mathlib.Omega.{arith}
 use borrow.Author.Needs.{needs}

@@ -47,7 +47,8 @@ returns-2 : tie.Need-returns-2
 returns-2 c =
     let call = written (c .before .before .before) in
     let joint = joint-known call in
-    write-put (now (start joint .args .fields)) _ _ (long-enough joint .if1 .left) (joint .joint-of .ensures) _ (call .write .ensures) (c .before .written .given .1)
+    write-put (now (start joint .args .fields)) _ _ (long-enough joint .if1 .left) (joint .joint-of .ensures) _ (call .write .ensures)
+    (c .before .written .given .1)
 
 same-length-2 : tie.Need-same-length-2
 same-length-2 c = search needs
@@ -56,7 +57,8 @@ returns-3 : tie.Need-returns-3
 returns-3 c =
     let call = written (c .before .before .before) in
     let joint = joint-known call in
-    write-refused (now (start joint .args .fields)) _ _ (long-enough joint .if1 .left) (joint .joint-of .ensures) _ (call .write .ensures) (c .before .written2 .given .1)
+    write-refused (now (start joint .args .fields)) _ _ (long-enough joint .if1 .left) (joint .joint-of .ensures) _ (call .write .ensures)
+    (c .before .written2 .given .1)
 
 pub jinqewan-write-spec : {M : Type 1} → statement M
 jinqewan-write-spec =

@@ -1,6 +1,6 @@
 -- `work_two_faces` meets its contract: `work` refuses, or the words of what it answers are put, and demand 3 holds of them. Assumes
 -- nothing.
-use mathlib.Core.Path.{_≡_, refl, sym, ap, subst, _∙_}
+use mathlib.Core.Path.{_≡_, refl, ap, subst, _∙_}
 use native.Mathlib.Omega.{arith}
 use denote.Ref.{now}
 use Rattle.joint.specs.declared.Joint.{Joint}
@@ -67,7 +67,8 @@ returns-2 c =
     work-put _ _ (s .pre .0) (s .pre .1) (same call) (passed .if1 .left) (put .put-outcome .ensures .1)
     (demand-words (now (s .args .result)) (jointOfWords (now (s .args .fields))) (call .work .result) (put .put-outcome .ensures .0 .0)
     (put .put-outcome .ensures .0 .1)
-    (subst (λ (j : Joint). Demand3Of j (call .work .result)) (call .before .joint-of .ensures) (call .work .ensures .1 (passed .if1 .left))))
+    (subst (λ (j : Joint). Demand3Of j (call .work .result)) (call .before .joint-of .ensures)
+    (call .work .ensures .1 (passed .if1 .left))))
 
 pub work-two-faces-spec : {M : Type 1} → statement M
 work-two-faces-spec =

@@ -25,7 +25,8 @@ returns c =
     let asked = c .before .before in
     let first = asked .before .before in
     let args = first .before .before .args in
-    let both = two-faces (args .number) (args .rows) (args .other-rows) (args .outcome) (sym (asked .before .is-asked .ensures) ∙ asked .if1 .taken) in
+    let test = sym (asked .before .is-asked .ensures) ∙ asked .if1 .taken in
+    let both = two-faces (args .number) (args .rows) (args .other-rows) (args .outcome) test in
     omega (
       arith,
       first .result-size .ensures .0,

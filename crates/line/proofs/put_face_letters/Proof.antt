@@ -32,7 +32,9 @@ array-share-prefix-letters c =
     omega (arith, counted .letter-count .ensures, letters-few (start counted .args .panel))
 
 slice-aggregate-put-letters : tie.Need-slice-aggregate-put-letters
-slice-aggregate-put-letters c = sym (length-take-le _ _ (omega (arith, c .before .before .letter-count .ensures, letters-few (start (c .before .before) .args .panel))))
+slice-aggregate-put-letters c =
+    let counted = c .before .before in
+    sym (length-take-le _ _ (omega (arith, counted .letter-count .ensures, letters-few (start counted .args .panel))))
 
 put-letters-requires : tie.Need-put-letters-requires
 put-letters-requires c κs = rw (shown (c .before .before)) (start (c .before .before) .pre)

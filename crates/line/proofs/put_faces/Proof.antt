@@ -1,12 +1,9 @@
 -- `put_faces` meets its contract: one line is put, or two, one after the other, where the panel is asked. Assumes nothing.
-use Prim.Native.Nat.{_+_, _≤_}
+use Prim.Native.Nat.{_+_}
 use mathlib.Core.Path.{_≡_, sym, _∙_}
-use mathlib.Core.Bool.{true, false}
 use mathlib.Core.List.{_++_}
-use denote.Ref.{now}
-use lib.ListN.{length}
-use Rattle.buffers.proofs.Puts.{put-both, room-first, room-after}
-use Rattle.line.specs.Line.{isAsked, resultLine, faceLines, concatenated}
+use Rattle.buffers.proofs.Puts.{put-both, room-after}
+use Rattle.line.specs.Line.{resultLine, faceLines, concatenated}
 use Rattle.line.proofs.Lines.{one-face, two-faces, first-room}
 use borrow.Author.Needs.{needs}
 use Rattle.line.proofs.put_faces.Statement.{statement}
@@ -62,7 +59,8 @@ returns-2 : tie.Need-returns-2
 returns-2 c =
     let put = c .before .before .before .before in
     let args = start (put .before) .args in
-    rw (one-face (args .number) (args .rows) (args .other-rows) (args .outcome) (sym (c .before .is-asked .ensures) ∙ c .if1 .left)) (put .put-result .ensures)
+    let test = sym (c .before .is-asked .ensures) ∙ c .if1 .left in
+    rw (one-face (args .number) (args .rows) (args .other-rows) (args .outcome) test) (put .put-result .ensures)
 
 pub put-faces-spec : {M : Type 1} → statement M
 put-faces-spec =

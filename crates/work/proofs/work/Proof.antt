@@ -44,7 +44,8 @@ returns c =
     let both = with-both (c .before) in
     let j = start (both .before) .args .joint in
     let first = c .before .first-face .ensures in (
-      c .work-faces .ensures .0 ∙ ap (λ (face : Face). workedFaces (j .column) (j .bolts) face (j .other)) first ∙ of-two j (two-faced both),
+      c .work-faces .ensures .0 ∙ ap (λ (face : Face). workedFaces (j .column) (j .bolts) face (j .other)) first
+          ∙ of-two j (two-faced both),
       (λ none. demand-both j _ (two-faced both)
           (subst (λ (face : Face). FacesDemand3 (j .column) (j .bolts) face (j .other) (c .work-faces .result)) first
           (c .work-faces .ensures .1 none))),

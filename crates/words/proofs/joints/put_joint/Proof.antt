@@ -60,7 +60,8 @@ returns c =
     let head = headOf (joint .column) (joint .bolts) (joint .face) in
     let own = ownOf (headOf (joint .column) (joint .bolts) (joint .other)) in
     let own-is = known .own-of .ensures ∙ ap ownOf (known .before .head-of2 .ensures) in
-    let put = first .put-face .ensures .0 ∙ ap (λ (h : List ℕ). sets words 0 (h ++ joint .face .levers)) (known .before .before .head-of .ensures) in
+    let put = first .put-face .ensures .0
+    ∙ ap (λ (h : List ℕ). sets words 0 (h ++ joint .face .levers)) (known .before .before .head-of .ensures) in
     second .put-face2 .ensures .0
     ∙ ap (λ (o : List ℕ). sets (first .put-face .last .0) firstWordCount (o ++ joint .other .levers)) own-is
     ∙ ap (λ (slice : List ℕ). sets slice firstWordCount (own ++ joint .other .levers)) put

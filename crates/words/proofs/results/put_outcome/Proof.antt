@@ -1,15 +1,14 @@
 -- `results::put_outcome` meets its contract: the first face's words, the second's and the panel's follow one another. Assumes nothing.
 use Prim.Native.Nat.{ℕ}
-use mathlib.Core.Path.{_≡_, refl, sym, ap, _∙_}
+use mathlib.Core.Path.{sym, ap, _∙_}
 use mathlib.Core.List.{List, [], _∷_, _++_}
 use native.Mathlib.Nat.{zero-add}
 use native.Mathlib.Omega.{arith}
 use denote.Ref.{now}
-use lib.ListN.{length, set, length-append, length-set}
-use lib.Seq.{sets, length-sets}
+use lib.ListN.{set, length-append, length-set}
+use lib.Seq.{sets}
 use Rattle.buffers.proofs.Puts.{sets-append}
-use Rattle.outcome.specs.declared.FaceResult.{FaceResult}
-use Rattle.words.specs.Results.{faceWordCount, figureWords, resultWords, panelFlag}
+use Rattle.words.specs.Results.{faceWordCount, resultWords, panelFlag}
 use Rattle.words.proofs.Copies.{copied-after}
 use Rattle.words.proofs.Lengths.{result-length}
 use borrow.Author.Needs.{needs}

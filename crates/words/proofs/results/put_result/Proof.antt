@@ -1,6 +1,6 @@
 -- `results::put_result` meets its contract: the forces are put first, and the figures follow them. Assumes nothing.
 use Prim.Native.Nat.{ℕ, _+_}
-use mathlib.Core.Path.{_≡_, sym, ap, _∙_}
+use mathlib.Core.Path.{sym, ap, _∙_}
 use mathlib.Core.List.{List}
 use denote.Ref.{now}
 use lib.Seq.{sets}
