@@ -38,7 +38,7 @@ pub record Demand3 (panelCounts : Bool) (column : Column) (bolt : BoltStrengths)
   -- the list equals the program's exactly when the unrounded moments Z are equal
   pub same : (other : List ℕ) → CompetesFor panelCounts column bolt face other
       → (other ≡ programsList face places) ↔ (momentOf face other ≡ momentOf face (programsList face places))
-  -- the joint fails in bending exactly when no competing list carries the design moment with the design axial force
+  -- the face fails in bending exactly when no competing list carries the design moment with the design axial force
   pub fails-in-bending : (bending ≡ false)
       ↔ ((other : List ℕ) → CompetesFor panelCounts column bolt face other → carriesOf face other ≡ false)
 

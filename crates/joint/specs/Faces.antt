@@ -1,7 +1,8 @@
 -- Rule 2.3: a beam on one face of the column or on both, by field 1. Assumes nothing.
-use Prim.Native.Nat.{ℕ, _-_}
+use Prim.Native.Nat.{ℕ, _+_, _-_}
 use mathlib.Core.Bool.{Bool, true, cond, _&&_}
 use Rattle.arithmetic.specs.Range.{Range, within, _to_}
+use Rattle.joint.specs.Ranges.{rowCounts}
 use Rattle.joint.specs.declared.Face.{Face}
 use Rattle.joint.specs.declared.Joint.{Joint}
 
@@ -9,8 +10,9 @@ use Rattle.joint.specs.declared.Joint.{Joint}
 abbrev pub secondFaceMark : ℕ
 secondFaceMark = 16
 
+-- so 17 to 24
 abbrev pub markedCounts : Range
-markedCounts = 17 to 24
+markedCounts = (secondFaceMark + rowCounts .low) to (secondFaceMark + rowCounts .high)
 
 -- whether field 1 says that there is a second face
 unfoldable pub twoFaced : (count : ℕ) → Bool

@@ -1,4 +1,4 @@
-// The sheet (rules 12): joint files end to end in, a line for each out. Each joint is read once, worked once and put
+// The sheet (rules 12): joint files end to end in, a line out for each face of each joint. Each joint is read once, worked once and put
 // straight into the caller's buffer; the input is walked by the place after each joint. Only where the output may be too short are the
 // lines measured first, since such an output stays as it was.
 use joint::first_rows;
