@@ -34,7 +34,7 @@ pub fn work(joint: Joint) -> Outcome
 }
 
 // What a joint with one face answers.
-pub fn of_one_face(worked: FaceOutcome) -> Outcome
+fn of_one_face(worked: FaceOutcome) -> Outcome
     ensures { λ r. ⌜ r ≡ ofOneFace worked ⌝ }
 {
     let result = worked.result;
