@@ -7,8 +7,8 @@
  *
  * Each call but jinqewan_rest answers 0 where it did what it is for, and else one number that tells why not: the refusal's number
  * (JINQEWAN_NUMBER), for refusal 10 the field (JINQEWAN_FIELD) and, where jinqewan_work refuses a joint with two faces, the face
- * (JINQEWAN_FACE); or JINQEWAN_SHORT where a slice can't hold a joint or a result; or, of the sheet alone, JINQEWAN_NO_ROOM. Whatever is
- * answered but 0, every slice and place that was lent is as it was. */
+ * (JINQEWAN_FACE); or JINQEWAN_SHORT where a slice can't hold a joint, a result or eight forces; or, of the sheet alone,
+ * JINQEWAN_NO_ROOM. Whatever is answered but 0, every slice and place that was lent is as it was. */
 #ifndef JINQEWAN_H
 #define JINQEWAN_H
 
@@ -52,7 +52,7 @@ enum {
     JINQEWAN_CAP = 10,          /* newtons */
     JINQEWAN_CHECK = 11,        /* 0 flange, 1 bearing, 2 buckling, 3 panel */
     JINQEWAN_GOVERNING = 12,    /* newtons */
-    JINQEWAN_BENDING = 13,      /* 1 where the joint passes, else 0 */
+    JINQEWAN_BENDING = 13,      /* 1 where the face passes, else 0 */
     JINQEWAN_BOLTS = 14,
     JINQEWAN_FLANGE_WELD = 15,
     JINQEWAN_WEB_WELD = 16,

@@ -26,7 +26,8 @@ use Rattle.connection.specs.OneFace.{steelOf, governingOf, capOf, forces
 use Rattle.outcome.specs.declared.FaceResult.{FaceResult}
 use Rattle.outcome.specs.declared.FaceOutcome.{FaceOutcome}
 
--- rule 11.8: in a refusal every figure is 0, the check is F with 0, the verdicts are no; and so where there is no second face
+-- rule 11.8: in a refusal every figure is 0, the check is F with 0, the verdicts are no; and by rule 11.1 so of a second face that there
+-- isn't
 abbrev pub noResult : FaceResult
 noResult = record {
   forces = replicate (rowCounts .high) 0;

@@ -46,9 +46,10 @@ use Rattle.work.specs.Demand.{Demand3Of}
 use Rattle.printer.specs.Sheet.{sheetOf}
 use Rattle.printer.specs.Answers.{printing, printedMeaning}
 use Rattle.printer.specs.declared.Printed.{Printed}
-use Rattle.words.specs.Words.{firstWordCount, jointWordCount, wordsFrom, fieldsOfWords, jointOfWords}
+use Rattle.words.specs.Words.{firstWordCount, jointWordCount, wordsFrom, fieldsOfWords, firstFieldsOfWords, jointOfWords}
 use Rattle.words.specs.Results.{faceWordCount, outcomeWordCount, flag, figureWords, resultWords, panelFlag}
-use Rattle.words.specs.Results.{oneFaceWords, outcomeWords}
+use Rattle.words.specs.OneFaced.{oneFaceWords}
+use Rattle.words.specs.Results.{outcomeWords}
 use Rattle.exports.specs.Answers.{answers, answerNumber}
 use Rattle.exports.specs.Calls.{filePut, writingInto, Demand3OfFace, Demand3OfWords, WorkedInto, sheetAnswer}
 use Rattle.exports.specs.Calls.{sheetingInto}
@@ -221,7 +222,7 @@ refusal-small fields room is =
     (eight-words (firstWordCount + ownCount) fields (omega (arith, room))))
 
 -- field 1 is the first word
-pub first-word : (fields : List ℕ) → getD (fieldsOfWords 26 (wordsFrom 0 fieldCount fields)) 0 0 ≡ getD fields 0 0
+pub first-word : (fields : List ℕ) → getD (firstFieldsOfWords fields) 0 0 ≡ getD fields 0 0
 unfolding fieldsOfWords
 first-word fields =
     getD-set-other (take fieldCount fields) 26 0 _ 0 (λ same. absurd (omega arith)) ∙ getD-take fieldCount fields 0 0 (omega arith)

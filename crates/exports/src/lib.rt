@@ -3,9 +3,9 @@
 // face. A kind of file is a number: 1 is the old one, and any other number the new one.
 //
 // An answer tells all of a refusal in its parts: its number in the lowest 8 bits, the field, for 10, times 256, and the face, of a joint
-// that has two, times 65536. 0 is no refusal; 100 says that a lent slice is too short to hold a joint or a result, and 101, of the sheet
-// alone, that the output has no room for all lines. Whatever the answer is but 0, every slice and place is as it was. The sheet's refusals
-// are its lines: they are printed, `R 4` too, and answered 0.
+// that has two, times 65536. 0 is no refusal; 100 says that a lent slice is too short to hold a joint, a result or eight forces, and
+// 101, of the sheet alone, that the output has no room for all lines. Whatever the answer is but 0, every slice and place is as it was. The
+// sheet's refusals are its lines: they are printed, `R 4` too, and answered 0.
 ghost use mathlib.Core.Path.{_≡_};
 ghost use Prim.Native.Nat.{_≤_};
 ghost use mathlib.Core.Bool.{false};

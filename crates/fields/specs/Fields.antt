@@ -49,8 +49,8 @@ columnOf fields =
 abbrev pub boltsOf : List ℕ → Bolts
 boltsOf fields = record { class = field 3 fields; diameter = field 4 fields }
 
--- ---- A face, from the numbers of its part of the file: fields 1 and 2 come first, 6 and 7 stand together from the sixth's place on, and
--- 14 to 29 from the fourteenth's.
+-- ---- A face, from the numbers of its part of the file: fields 1 and 2 come first, `sixth` is the place of field 6, with 7 after it, and
+-- `fourteenth` that of field 14, with 15 to 29 after it.
 
 abbrev pub beamOf : (numbers : List ℕ) (sixth fourteenth : ℕ) → Beam
 beamOf numbers sixth fourteenth =

@@ -67,8 +67,8 @@ pub fn bolts_of(fields: &[u32]) -> Bolts
     }
 }
 
-// The parts of a face, from the numbers of its part of the file: field 6 at the sixth's place, field 14 at the fourteenth's. What is open
-// here with a `requires` is so for the crate of words.
+// The parts of a face, from the numbers of its part of the file: `sixth` is the place of field 6, `fourteenth` that of field 14. What is
+// open here with a `requires` is so for the crate of words.
 fn beam_of(numbers: &[u32], sixth: usize, fourteenth: usize) -> Beam
     requires { ⌜ PlacesWithin (now numbers) sixth fourteenth ⌝ }
     ensures { λ r. ⌜ r ≡ beamOf (now (numbers .entry)) sixth fourteenth ⌝ }

@@ -58,7 +58,7 @@ pub enum Cap {
     Exceeded,
 }
 
-// Refusal 15 and the cap, by the sign of N. Work calls it for a joint whose fields are in range.
+// Refusal 15 and the cap, by the sign of N. It is called for a face whose fields are in range.
 pub fn tension_cap(force: u64, loads: Loads) -> Cap
     requires { ⌜ (force ≤ mostBearing) × LoadsInRange loads ⌝ }
     ensures { λ r. ⌜ r ≡ capCase loads force ⌝ }

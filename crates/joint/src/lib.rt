@@ -114,7 +114,7 @@ pub struct Joint {
     pub column: Column,
     pub bolts: Bolts,
     pub face: Face,
-    // the second face, with fields 1, 2, 6, 7, 14 to 29 and levers of its own; all 0 where there is none
+    // the second face, with fields 1, 2, 6, 7, 14 to 29 and levers of its own; where there is none it isn't looked at, and Read gives 0
     pub other: Face,
 }
 

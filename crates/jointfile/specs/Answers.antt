@@ -38,7 +38,7 @@ pub record OthersRead (bytes : List ℕ) (from rows : ℕ) (entry others levers 
   pub means : (count : ℕ) → partMeaning bytes (count ∷ others) levers run ≡ readOthers (length entry) count rows (drop from bytes)
   pub within : from ≤ length bytes → endPlace run ≤ length bytes
 
--- The answer to reading a part from a place on, whose fields have so many places.
+-- The answer to reading a part from a place on, whose fields have the places of `entry`.
 pub record PartRead (bytes : List ℕ) (from : ℕ) (first : Bool) (entry fields levers : List ℕ) (run : Run) : Type 0 where
   pub means : partMeaning bytes fields levers run ≡ readPart first (length entry - 1) (drop from bytes)
   pub within : endPlace run ≤ length bytes

@@ -47,16 +47,17 @@ lettersOf result =
 abbrev pub figuresOf : FaceResult → List ℕ
 figuresOf result = result .sum ∷ result .«newton_metres» ∷ result .cap ∷ []
 
--- the forces of the rows; there are eight, and no joint has more rows than that
+-- the forces of the rows; there are eight, and no face has more rows than that
 abbrev pub rowForces : (rows : ℕ) → List ℕ → List ℕ
 rowForces rows forces = take (min rows 8) forces
 
--- rule 12.6: the panel's verdict is shown where the joint has two faces
+-- rule 12.6: the panel's verdict is shown where it was asked: in an answer that is no refusal, where the joint has two faces
 abbrev pub isAsked : PanelVerdict → Bool
 isAsked NotAsked = false
 isAsked Passes = true
 isAsked Fails = true
 
+-- P or F; 0 is no letter, and isn't shown
 abbrev pub panelLetter : PanelVerdict → ℕ
 panelLetter NotAsked = 0
 panelLetter Passes = verdictLetter true

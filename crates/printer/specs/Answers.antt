@@ -32,7 +32,7 @@ printedMeaning NoRoom buffer = noRoom buffer
 abbrev pub leastPerLine : ℕ
 leastPerLine = leastTwoFaced / 2
 
--- No sheet of so many bytes is longer: a line for each so many bytes, and one for what is left.
+-- No sheet of `count` bytes of input is longer: a line for each `leastPerLine` of them, and one for what is left.
 abbrev pub mostPrinted : (count : ℕ) → ℕ
 mostPrinted count = (count + (leastPerLine - 1)) / leastPerLine * mostLine
 

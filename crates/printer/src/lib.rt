@@ -1,5 +1,5 @@
-// The sheet (rules 12): joint files end to end in, a line out for each face of each joint. Each joint is read once, worked once and put
-// straight into the caller's buffer; the input is walked by the place after each joint. Only where the output may be too short are the
+// The sheet (rules 12): joint files end to end in, a line out for each face, or one for a refusal. Each joint is read once, worked once and
+// put straight into the caller's buffer; the input is walked by the place after each joint. Only where the output may be too short are the
 // lines measured first, since such an output stays as it was.
 use joint::first_rows;
 use jointfile::FileKind;
@@ -87,7 +87,7 @@ fn has_room(input: &[u8], room: usize) -> bool
     lines_size(input) <= room
 }
 
-// No sheet of so many bytes is longer: a line for each so many bytes, and one for what is left.
+// No sheet of `count` bytes of input is longer: a line for each `LEAST_PER_LINE` of them, and one for what is left.
 fn most_printed(count: usize) -> usize
     requires { ⌜ count ≤ mostInput ⌝ }
     ensures { λ r. ⌜ r ≡ mostPrinted count ⌝ }

@@ -42,7 +42,7 @@ shared limit n = forcesDownTo limit n n
 
 -- Rule 7.1 for any table of limits: a list competes when it has one force for each row, and for every group a sum of at most its limit,
 -- before any lowering. The cap is no separate clause here, since a table may have it among its limits (`withCap`); rule 7.1 whole,
--- with the cap, is Work's `CompetesFor`.
+-- with the cap, is `CompetesFor` of the crate `connection`.
 pub record Competes (limit : Table) (n : ℕ) (forces : List ℕ) : Type 0 where
   pub rows : length forces ≡ n
   pub keeps : (i j : ℕ) → i ≤ j → j < n → groupSum forces i j ≤ limit i j

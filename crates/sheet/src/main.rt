@@ -1,6 +1,6 @@
-// The program `sheet`: joint files end to end on standard input, a line for each of their faces on standard output. A sheet that was half
-// read or half written must never look whole: an input that can't be read to its end prints no line, and either failure is said on
-// standard error.
+// The program `sheet`: joint files end to end on standard input, a line for each face, or one for a refusal, on standard output. A sheet
+// that was half read or half written must never look whole: an input that can't be read to its end prints no line, and either failure is
+// said on standard error.
 use input::was_read_whole;
 use libc::STDERR_FILENO;
 use libc::STDIN_FILENO;

@@ -3,7 +3,6 @@
 use Prim.Native.Nat.{ℕ, _+_, _*_}
 use mathlib.Core.List.{List, [], _∷_, _++_}
 use mathlib.Core.Bool.{Bool, cond}
-use lib.ListN.{replicate}
 use Rattle.governing.specs.declared.CompressionCheck.{CompressionCheck}
 use Rattle.governing.specs.declared.CompressionCheck.the-variants.{Flange, Bearing, Buckling, Panel}
 use Rattle.governing.specs.Governing.{forceOf}
@@ -48,10 +47,6 @@ abbrev pub panelFlag : PanelVerdict → ℕ
 panelFlag NotAsked = 0
 panelFlag Passes = 1
 panelFlag Fails = 0
-
--- the words of the one face that there is: a second and the panel have 0
-abbrev pub oneFaceWords : FaceResult → List ℕ
-oneFaceWords result = resultWords result ++ replicate (faceWordCount + 1) 0
 
 -- the words of an outcome
 abbrev pub outcomeWords : Outcome → List ℕ

@@ -10,7 +10,7 @@ use Rattle.joint.specs.declared.Bolts.{Bolts}
 use Rattle.joint.specs.declared.Column.{Column}
 use Rattle.joint.specs.declared.Face.{Face}
 use Rattle.joint.specs.declared.Joint.{Joint}
-use Rattle.fields.specs.Fields.{fieldCount, ownCount, storedAxial, columnOf, boltsOf, firstFaceOf, jointOf, fieldsOf, ownOf}
+use Rattle.fields.specs.Fields.{fieldCount, ownCount, storedAxial, jointOf, fieldsOf, ownOf}
 
 -- how many words the fields with the first face's eight levers are
 abbrev pub firstWordCount : ℕ
@@ -34,21 +34,18 @@ axialOfWord word = cond (ltb word 2147483648) (pos word) (negsuc (4294967295 - w
 unfoldable pub fieldsOfWords : (axial : ℕ) → List ℕ → List ℕ
 fieldsOfWords axial words = set words axial (storedAxial (axialOfWord (getD words axial 0)))
 
--- the joint of its words; N, field 27, is the eighteenth of what a second face has of its own
+-- fields 1 to 30, and those of a second face's own, of which N, field 27, is the eighteenth
+abbrev pub firstFieldsOfWords : List ℕ → List ℕ
+firstFieldsOfWords words = fieldsOfWords 26 (wordsFrom 0 fieldCount words)
+
+abbrev pub ownFieldsOfWords : List ℕ → List ℕ
+ownFieldsOfWords words = fieldsOfWords 17 (wordsFrom firstWordCount ownCount words)
+
+-- the joint of its words
 abbrev pub jointOfWords : List ℕ → Joint
 jointOfWords words =
-    jointOf (fieldsOfWords 26 (wordsFrom 0 fieldCount words)) (wordsFrom fieldCount 8 words)
-    (fieldsOfWords 17 (wordsFrom firstWordCount ownCount words)) (wordsFrom (firstWordCount + ownCount) 8 words)
-
--- the column, the bolts and the first face of a joint's words; where there is no second, that is all of it
-abbrev pub columnOfWords : List ℕ → Column
-columnOfWords words = columnOf (fieldsOfWords 26 (wordsFrom 0 fieldCount words))
-
-abbrev pub boltsOfWords : List ℕ → Bolts
-boltsOfWords words = boltsOf (fieldsOfWords 26 (wordsFrom 0 fieldCount words))
-
-abbrev pub faceOfWords : List ℕ → Face
-faceOfWords words = firstFaceOf (fieldsOfWords 26 (wordsFrom 0 fieldCount words)) (wordsFrom fieldCount 8 words)
+    jointOf (firstFieldsOfWords words) (wordsFrom fieldCount 8 words)
+    (ownFieldsOfWords words) (wordsFrom (firstWordCount + ownCount) 8 words)
 
 -- ---- the words of a joint
 
