@@ -24,7 +24,7 @@ use Rattle.fields.proofs.Order.{fields-face, own-face, joint-fields}
 use Rattle.jointfile.specs.File.{untoldEndDistance, lacking, storedFieldCount, otherFieldCount, noPart}
 use Rattle.jointfile.specs.File.{readPart, readSecond, readJoint}
 use Rattle.jointfile.specs.Write.{firstFields, secondFields, partOf, firstPart, secondPart, file, rowsCheck, spareCheck, writing}
-use Rattle.jointfile.specs.Answers.{PartHeld, Held, Writable, OtherTold, ToldBy}
+use Rattle.jointfile.specs.Answers.{PartHeld, Held, Writable, OtherTold, asTold, ToldBy}
 use Rattle.jointfile.specs.declared.FileKind.{FileKind}
 use Rattle.jointfile.specs.declared.FileKind.the-variants.{Old, New}
 use Rattle.jointfile.proofs.Answers.{stored-count}
@@ -81,20 +81,47 @@ module _ (joint : Joint) (held : Held joint) (writable : Writable joint) where
         spare = rw (second-count joint) (second-passes (λ face. allZero (drop (face .rows) (face .levers))) joint (writable .spare) two);
       }
 
--- a joint with another second face
-other-face : (joint : Joint) (fields levers own others own′ others′ : List ℕ) → jointOf fields levers own others ≡ joint
-    → joint .other ≡ secondFaceOf own′ others′ → jointOf fields levers own′ others′ ≡ joint
-unfolding jointOf
-other-face joint fields levers own others own′ others′ is other =
-    λ i. record { column = is i .column; bolts = is i .bolts; face = is i .face; other = sym other i }
+-- the joint that a file tells, with a second face and without
+module _ (joint : Joint) where
+  told-both : twoFaced (joint .face .rows) ≡ true → joint ≡ asTold joint
+  unfolding asTold
+  told-both two = rw two
 
-module _ (kind : FileKind) (joint : Joint) (held : Held joint) (writable : Writable joint) (told : ToldBy kind joint) (left : List ℕ) where
+  told-first : twoFaced (joint .face .rows) ≡ false
+      → jointOf (firstFields joint) (joint .face .levers) (noPart .fields) (noPart .levers) ≡ asTold joint
+  unfolding asTold jointOf
+  told-first one =
+      let is = joint-fields joint in
+      rw one (λ i. record {
+        column = is i .column;
+        bolts = is i .bolts;
+        face = is i .face;
+        other = secondFaceOf (noPart .fields) (noPart .levers);
+      })
+
+  -- a joint whose second face is all 0 where it has none is the one that is told
+  pub told-whole : OtherTold joint → asTold joint ≡ joint
+  unfolding asTold
+  told-whole alone = go (twoFaced (joint .face .rows)) refl
+    where
+      go : (t : Bool) → twoFaced (joint .face .rows) ≡ t
+          → record {
+            column = joint .column;
+            bolts = joint .bolts;
+            face = joint .face;
+            other = cond t (joint .other) (secondFaceOf (noPart .fields) (noPart .levers));
+          } ≡ joint
+      go true two = refl
+      go false one = λ i. record { column = joint .column; bolts = joint .bolts; face = joint .face; other = sym (alone one) i }
+
+module _ (kind : FileKind) (joint : Joint) (held : Held joint) (writable : Writable joint)
+    (lacks : drop (storedFieldCount kind) (firstFields joint) ≡ lacking kind) (left : List ℕ) where
   abbrev stored-fields : List ℕ
   stored-fields = take (storedFieldCount kind) (firstFields joint)
 
   whole : stored-fields ++ lacking kind ≡ firstFields joint
   whole =
-      ap (λ (xs : List ℕ). stored-fields ++ xs) (sym (told .lacks))
+      ap (λ (xs : List ℕ). stored-fields ++ xs) (sym lacks)
       ∙ take-append-drop (storedFieldCount kind) (firstFields joint)
 
   -- the first part reads back
@@ -109,48 +136,33 @@ module _ (kind : FileKind) (joint : Joint) (held : Held joint) (writable : Writa
 
   -- and the second, if there is one
   reads-second : (mark : Bool) → twoFaced (joint .face .rows) ≡ mark
-      → readSecond (firstFields joint) (joint .face .levers) (cond mark (secondPart joint) [] ++ left) ≡ got joint left
+      → readSecond (firstFields joint) (joint .face .levers) (cond mark (secondPart joint) [] ++ left) ≡ got (asTold joint) left
   unfolding readSecond
   reads-second true two =
       let part =
       reads-part false (ownCount - 1) (secondFields joint) (joint .other .levers) left (second-long joint)
       (second-right joint held writable two) in
-      rw (first-count joint, two, rw (second-count joint) at part) (ap (λ (j : Joint). got j left) (joint-fields joint))
+      rw (first-count joint, two, rw (second-count joint) at part) (ap (λ (j : Joint). got j left) (joint-fields joint ∙ told-both joint two))
   reads-second false one =
-      rw (first-count joint, one)
-      (ap (λ (j : Joint). got j left)
-      (other-face joint (firstFields joint) (joint .face .levers) (secondFields joint) (joint .other .levers)
-      (noPart .fields) (noPart .levers) (joint-fields joint) (told .alone one)))
+      rw (first-count joint, one) (ap (λ (j : Joint). got j left) (told-first joint one))
 
--- Every joint that the program can hold, that `write` refuses by neither 3 nor 6, and of which the file tells all: the file, with anything
--- after it, reads back to the joint, and leaves exactly what came after.
-pub reads-back : (kind : FileKind) (joint : Joint) → Held joint → Writable joint → ToldBy kind joint → (left : List ℕ)
-    → readJoint kind (file kind joint ++ left) ≡ got joint left
+-- Every joint that the program can hold, that `write` refuses by neither 3 nor 6, and whose fields that the file lacks are as reading
+-- gives them: the file, with anything after it, reads back to the joint that it tells, and leaves exactly what came after.
+pub reads-back : (kind : FileKind) (joint : Joint) → Held joint → Writable joint
+    → drop (storedFieldCount kind) (firstFields joint) ≡ lacking kind → (left : List ℕ)
+    → readJoint kind (file kind joint ++ left) ≡ got (asTold joint) left
 unfolding file
-reads-back kind joint held writable told left =
+reads-back kind joint held writable lacks left =
     let two = twoFaced (joint .face .rows) in
     rw append-assoc
-    (reads-first kind joint held writable told left (cond two (secondPart joint) [] ++ left)
-    ∙ reads-second kind joint held writable told left two refl)
-
--- A file of the new kind tells all of every joint with two faces, and of one with one face whose second is all 0.
-pub told-new : (joint : Joint) → OtherTold joint → ToldBy New joint
-unfolding fieldsOf
-told-new joint alone = record { lacks = refl; alone = alone }
-
-pub both-told : (joint : Joint) → twoFaced (joint .face .rows) ≡ true → OtherTold joint
-both-told joint two one =
-    let apart : true ≡ false = sym two ∙ one in
-    let z : _≡_ {A = ℕ} 0 1 = cc in
-    absurd (omega arith)
+    (reads-first kind joint held writable lacks left (cond two (secondPart joint) [] ++ left)
+    ∙ reads-second kind joint held writable lacks left two refl)
 
 -- Of the old kind: a joint with the z that its files don't tell, 15000, is read from its new file less z.
-pub reads-old : (joint : Joint) → Held joint → Writable joint → OtherTold joint → joint .column .«end_distance» ≡ untoldEndDistance
-    → (left : List ℕ)
-    → readJoint Old (file Old joint ++ left) ≡ got joint left
+pub reads-old : (joint : Joint) → Held joint → Writable joint → joint .column .«end_distance» ≡ untoldEndDistance → (left : List ℕ)
+    → readJoint Old (file Old joint ++ left) ≡ got (asTold joint) left
 unfolding fieldsOf
-reads-old joint held writable alone far =
-    reads-back Old joint held writable (record { lacks = ap (λ (z : ℕ). z ∷ []) far; alone = alone })
+reads-old joint held writable far = reads-back Old joint held writable (ap (λ (z : ℕ). z ∷ []) far)
 
 -- A joint that is refused for neither 3 nor 6, whatever the buffer.
 pub writable : (joint : Joint) (buffer : List ℕ) → (writing joint buffer .refusal ≡ 3 → ⊥) → (writing joint buffer .refusal ≡ 6 → ⊥)
@@ -163,20 +175,20 @@ writable joint buffer not-3 not-6 = go (rowsCheck joint .1) refl (spareCheck joi
     go true rows false spare = absurd (not-6 (rw (rows, spare)))
     go false rows u spare = absurd (not-3 (rw rows))
 
--- What the buffer holds after `write` reads back to the joint, and leaves what was in the buffer past the file.
-pub written-back : (joint : Joint) (buffer : List ℕ) → Held joint → OtherTold joint → writing joint buffer .refusal ≡ 0
-    → readJoint New (writing joint buffer .buffer) ≡ got joint (drop (writing joint buffer .size) buffer)
-unfolding writing firstFailing
-written-back joint buffer held alone none = go (leb (length (file New joint)) (length buffer)) refl
+-- What the buffer holds after `write` reads back to the joint that it tells, and leaves what was in the buffer past the file.
+pub written-back : (joint : Joint) (buffer : List ℕ) → Held joint → writing joint buffer .refusal ≡ 0
+    → readJoint New (writing joint buffer .buffer) ≡ got (asTold joint) (drop (writing joint buffer .size) buffer)
+unfolding writing firstFailing fieldsOf
+written-back joint buffer held none = go (leb (length (file New joint)) (length buffer)) refl
   where
     taken : Writable joint
     taken = writable joint buffer (λ e. omega arith) (λ e. omega arith)
 
     go : (t : Bool) → leb (length (file New joint)) (length buffer) ≡ t
-        → readJoint New (writing joint buffer .buffer) ≡ got joint (drop (writing joint buffer .size) buffer)
+        → readJoint New (writing joint buffer .buffer) ≡ got (asTold joint) (drop (writing joint buffer .size) buffer)
     go true room =
         rw (taken .rows, taken .spare, room)
-        (reads-back New joint held taken (told-new joint alone) (drop (length (file New joint)) buffer))
+        (reads-back New joint held taken refl (drop (length (file New joint)) buffer))
     go false short =
         let five : writing joint buffer .refusal ≡ 5 = rw (taken .rows, taken .spare, short) in
         absurd (omega arith)

@@ -2,7 +2,7 @@
 use Prim.Native.Nat.{ℕ, _+_, _-_, _^_, _≤_, _<_}
 use mathlib.Core.Path.{_≡_}
 use mathlib.Core.List.{List, [], _∷_, _++_}
-use mathlib.Core.Bool.{Bool, true, false}
+use mathlib.Core.Bool.{Bool, true, false, cond}
 use lib.ListN.{length, getD, drop}
 use Rattle.joint.specs.Faces.{twoFaced}
 use Rattle.joint.specs.declared.Joint.{Joint}
@@ -79,6 +79,15 @@ pub record Writable (joint : Joint) : Type 0 where
 -- Where a joint has no second face, that is all 0, as reading gives it.
 abbrev pub OtherTold : Joint → Type 0
 OtherTold joint = twoFaced (joint .face .rows) ≡ false → joint .other ≡ secondFaceOf (noPart .fields) (noPart .levers)
+
+-- The joint that a file tells: where there is no second face, it is all 0, as reading gives it.
+unfoldable pub asTold : Joint → Joint
+asTold joint = record {
+  column = joint .column;
+  bolts = joint .bolts;
+  face = joint .face;
+  other = cond (twoFaced (joint .face .rows)) (joint .other) (secondFaceOf (noPart .fields) (noPart .levers));
+}
 
 -- A joint that a file of this kind tells whole: the fields that the file lacks, and the face that it has none of, are as reading gives
 -- them.
