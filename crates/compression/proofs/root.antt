@@ -1,3 +1,3 @@
 -- Laws on plain numbers that the root's proofs cite.
-mod Guesses
 mod Newton
+mod Halves

@@ -1,6 +1,6 @@
--- The integer square root (rule 5.8): the greatest number of 32 bits whose square is at most x, for x of 64 bits; how long x is in bits;
--- and what makes a first guess safe. Assumes nothing.
-use Prim.Native.Nat.{ℕ, _+_, _-_, _*_, _^_, _≤_, _<_}
+-- The integer square root (rule 5.8): the greatest number of 32 bits whose square is at most x, for x of 64 bits; and what makes a first
+-- guess safe. Assumes nothing.
+use Prim.Native.Nat.{ℕ, _+_, _*_, _^_, _<_}
 use mathlib.Core.Bool.{cond}
 use lib.Dec.{eqb}
 use Rattle.arithmetic.specs.Greatest.{greatest}
@@ -18,13 +18,6 @@ rootCase x = cond (eqb x 0) Zero (Positive (squareRoot x))
 abbrev pub rootMeaning : Root → ℕ
 rootMeaning Zero = 0
 rootMeaning (Positive r) = r
-
--- x is n bits long
-pub record BitLength (x n : ℕ) : Type 0 where
-  pub some : 0 < n
-  pub most : n ≤ 64
-  pub low : 2 ^ (n - 1) ≤ x
-  pub high : x < 2 ^ n
 
 -- a guess that isn't below the root of x, and fits half a word
 pub record Guess (x r : ℕ) : Type 0 where

@@ -39,13 +39,17 @@ step-above x r p =
     let below : x < suc (x / r) * r = div-lt-iff-lt-mul p .0 (lt-suc-self (x / r)) in
     lt-of-lt-of-le below (mean (suc (x / r)) r ((r + x / r) / 2 + 1) (omega arith))
 
--- a guess that isn't below the root of a number above 0 is above 0
-pub positive : {x r : ℕ} → 0 < x → x < (r + 1) * (r + 1) → 0 < r
-positive {r = zero} p h = absurd (omega arith)
-positive {r = suc r} p h = omega arith
+-- a number whose square is above another is above 0
+pub positive : {x r : ℕ} → x < r * r → 0 < r
+positive {r = zero} h = absurd (omega arith)
+positive {r = suc r} h = omega arith
 
-pub next-guess : {x r quotient : ℕ} → 0 < x → Guess x r → quotient ≡ x / r → quotient < r → Guess x ((r + quotient) / 2)
-next-guess {x} {r} p g e h = record { above = rw e (step-above x r (positive p (g .above))); small = omega (arith, g .small) }
+-- and the quotient is below it
+pub quotient-lt : {x r : ℕ} → x < r * r → x / r < r
+quotient-lt h = div-lt-iff-lt-mul (positive h) .1 h
+
+pub next-guess : {x r : ℕ} → Guess x r → x < r * r → Guess x ((r + x / r) / 2)
+next-guess {x} {r} g h = record { above = step-above x r (positive h); small = omega (arith, g .small, quotient-lt h) }
 
 module _ (x : ℕ) (small : x < 2 ^ 64) where
   pub root-greatest : Greatest (λ (r : ℕ). r * r ≤ x) (squareRoot x)
