@@ -1,8 +1,8 @@
-// The integer square root of any u64, by Newton's steps from a stored first guess.
+// The integer square root of any u64, by Newton's steps.
 ghost use mathlib.Core.Path.{_≡_};
 ghost use Rattle.compression.specs.Root.{rootCase, Guess};
 
-// The root of 0, which has no length in bits and so no first guess, is a case of its own.
+// The root of 0, which has no length in bits, is a case of its own.
 pub enum Root {
     Zero,
     Positive(u64),
@@ -22,10 +22,12 @@ pub fn square_root(x: u64) -> Root
     Root::Positive(r)
 }
 
-// Newton's step from 2 to half the length of x in bits, where the quotient is a shift too.
+// A step from 2 to half the length of x in bits, rounded down: in this one the quotient is a shift.
 fn first_guess(x: u64) -> u64
     ensures { λ r. ⌜ Guess x r ⌝ }
 {
     let half = (64 - u64::leading_zeros(x)) / 2;
-    ((1u64 << half) + (x >> half)) / 2
+    let power = 1u64 << half;
+    let quotient = x >> half;
+    (power + quotient) / 2
 }

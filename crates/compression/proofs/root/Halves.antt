@@ -1,7 +1,7 @@
 -- The first guess: a step from 2 to half of x's length in bits. A step from any number above 0 isn't below the root, and this one fits
 -- half a word, since neither half of x's bits has more than 32. Assumes nothing.
 use mathlib.Core.Path.{_≡_, _∙_}
-use Prim.Native.Nat.{ℕ, _+_, _-_, _*_, _/_, _%_, _^_, _<_}
+use Prim.Native.Nat.{ℕ, _+_, _-_, _*_, _/_, _%_, _^_, _≤_, _<_}
 use native.Mathlib.Nat.{lt-of-lt-of-le, one-mul}
 use native.Mathlib.Omega.{arith}
 use lib.Dec.{lit<}
@@ -18,19 +18,19 @@ abbrev half : ℕ → ℕ
 half x = bits x / 2
 
 -- 1 shifted by half
-pub power : (x : ℕ) → (1 * 2 ^ half x) % 2 ^ 64 ≡ 2 ^ half x
-power x = shl-exact {a = 1} 1 (half x) 64 (lit< tt) (omega arith) ∙ one-mul (2 ^ half x)
+pub shifted : (x : ℕ) → (1 * 2 ^ half x) % 2 ^ 64 ≡ 2 ^ half x
+shifted x = shl-exact {a = 1} 1 (half x) 64 (lit< tt) (omega arith) ∙ one-mul (2 ^ half x)
+
+pub power-le : (x : ℕ) → 2 ^ half x ≤ 2 ^ 32
+power-le x = pow-mono {i = half x} {j = 32} (omega arith)
 
 module _ (x : ℕ) (small : x < 2 ^ 64) where
-  -- x shifted by half: its upper bits
-  upper : x / 2 ^ half x < 2 ^ 32
-  upper =
+  -- the quotient is the upper half
+  pub upper-lt : x / 2 ^ half x < 2 ^ 32
+  upper-lt =
       let length = leading-length 64 x small in
       let halves : length .0 ≡ bits x - half x + half x = omega (arith, length .1) in
       lt-of-lt-of-le (shr-lt (bits x - half x) (half x) (rw halves at (length .2))) (pow-mono {i = bits x - half x} {j = 32} (omega arith))
 
-  pub sum : 2 ^ half x + x / 2 ^ half x < 2 ^ 33
-  sum = omega (arith, pow-mono {i = half x} {j = 32} (omega arith), upper)
-
   pub stepped : Guess x ((2 ^ half x + x / 2 ^ half x) / 2)
-  stepped = record { above = step-above x (2 ^ half x) (pow-pos (half x)); small = omega (arith, sum) }
+  stepped = record { above = step-above x (2 ^ half x) (pow-pos (half x)); small = omega (arith, power-le x, upper-lt) }
