@@ -22,7 +22,8 @@ pub fn square_root(x: u64) -> Root
     Root::Positive(r)
 }
 
-// A step from 2 to half the length of x in bits, rounded down: in this one the quotient is a shift.
+// Newton's step from 2 to the power of half the length of x in bits, rounded down. That power may be below the root; a step from it
+// isn't, and its quotient is a shift.
 fn first_guess(x: u64) -> u64
     ensures { λ r. ⌜ Guess x r ⌝ }
 {

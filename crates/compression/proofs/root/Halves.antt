@@ -1,5 +1,5 @@
--- The first guess: a step from 2 to half of x's length in bits. A step from any number above 0 isn't below the root, and this one fits
--- half a word, since neither half of x's bits has more than 32. Assumes nothing.
+-- The first guess: a step from 2 to the power of half of x's length in bits. A step from any number above 0 isn't below the root, and
+-- this one fits half a word, since neither half of x's bits has more than 32. Assumes nothing.
 use mathlib.Core.Path.{_≡_, _∙_}
 use Prim.Native.Nat.{ℕ, _+_, _-_, _*_, _/_, _%_, _^_, _≤_, _<_}
 use native.Mathlib.Nat.{lt-of-lt-of-le, one-mul}
