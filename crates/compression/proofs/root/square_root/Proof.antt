@@ -1,5 +1,5 @@
--- `compression::root::square_root` meets its contract. The invariant: the guess isn't below the root. The measure is the guess, which
--- falls.
+-- `compression::root::square_root` meets its contract. The invariant: the guess isn't below the root, and fits half a word, so that its
+-- square fits a word. The measure is the guess, which falls.
 -- Assumes nothing.
 use mathlib.Core.Path.{ap}
 use Prim.Native.Nat.{_-_, _^_}
