@@ -10,7 +10,7 @@ use Rattle.compression.specs.declared.root.Root.the-variants.{Zero, Posi
 unfoldable pub squareRoot : ℕ → ℕ
 squareRoot = greatest 32 (λ (r : ℕ). r * r)
 
--- 0 has no length in bits, and is a case of its own
+-- 0 is a case of its own
 unfoldable pub rootCase : ℕ → Root
 rootCase x = cond (eqb x 0) Zero (Positive (squareRoot x))
 

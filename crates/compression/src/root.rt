@@ -2,13 +2,14 @@
 ghost use mathlib.Core.Path.{_≡_};
 ghost use Rattle.compression.specs.Root.{rootCase, Guess};
 
-// The root of 0, which has no length in bits, is a case of its own.
+// The root of 0 is a case of its own.
 pub enum Root {
     Zero,
     Positive(u64),
 }
 
-// The greatest r with r * r at most x. A guess that isn't below the root stays so, and falls until it is the root.
+// The greatest r with r * r at most x. A guess that isn't below the root stays so, and falls until it is the root. It is below 2^32, so
+// its square fits.
 pub fn square_root(x: u64) -> Root
     ensures { λ r. ⌜ r ≡ rootCase x ⌝ }
 {
@@ -23,7 +24,7 @@ pub fn square_root(x: u64) -> Root
 }
 
 // Newton's step from 2 to the power of half the length of x in bits, rounded down. That power may be below the root; a step from it
-// isn't, and its quotient is a shift.
+// isn't. Its quotient is a shift.
 fn first_guess(x: u64) -> u64
     ensures { λ r. ⌜ Guess x r ⌝ }
 {

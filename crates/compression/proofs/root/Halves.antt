@@ -1,5 +1,5 @@
--- The first guess: a step from 2 to the power of half of x's length in bits. A step from any number above 0 isn't below the root, and
--- this one fits half a word, since neither half of x's bits has more than 32. Assumes nothing.
+-- The first guess: a step from 2 to the power of half of x's length in bits, rounded down. A step from any number above 0 isn't below the
+-- root, and this one fits half a word: the power is at most 2 ^ 32, and the quotient below that. Assumes nothing.
 use mathlib.Core.Path.{_≡_, _∙_}
 use Prim.Native.Nat.{ℕ, _+_, _-_, _*_, _/_, _%_, _^_, _≤_, _<_}
 use native.Mathlib.Nat.{lt-of-lt-of-le, one-mul}
@@ -10,14 +10,14 @@ use lib.Count.{leadingZeros, leading-length}
 use Rattle.compression.specs.Root.{Guess}
 use Rattle.compression.proofs.root.Newton.{step-above}
 
--- x's length in bits, and the lower half of it
+-- x's length in bits, and half of it, rounded down
 abbrev bits : ℕ → ℕ
 bits x = 64 - leadingZeros 64 x
 
 abbrev half : ℕ → ℕ
 half x = bits x / 2
 
--- 1 shifted by half
+-- 1 shifted by half is the power: no bit is lost
 pub shifted : (x : ℕ) → (1 * 2 ^ half x) % 2 ^ 64 ≡ 2 ^ half x
 shifted x = shl-exact {a = 1} 1 (half x) 64 (lit< tt) (omega arith) ∙ one-mul (2 ^ half x)
 
@@ -25,7 +25,7 @@ pub power-le : (x : ℕ) → 2 ^ half x ≤ 2 ^ 32
 power-le x = pow-mono {i = half x} {j = 32} (omega arith)
 
 module _ (x : ℕ) (small : x < 2 ^ 64) where
-  -- the quotient is the upper half
+  -- the quotient has the other half of x's bits, at most 32
   pub upper-lt : x / 2 ^ half x < 2 ^ 32
   upper-lt =
       let length = leading-length 64 x small in

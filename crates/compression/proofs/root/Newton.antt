@@ -1,5 +1,5 @@
--- Newton's steps for a square root, on plain numbers: a step from any guess gives one that isn't below the root, since the mean of two
--- numbers isn't below the root of their product; and a number between the two bounds is the root. Assumes nothing.
+-- Newton's steps for a square root, on plain numbers: a step from any number above 0 isn't below the root, since the mean of two numbers
+-- isn't below the root of their product; and a number between the two bounds is the root. Assumes nothing.
 use mathlib.Core.Path.{_≡_}
 use Prim.Native.Nat.{ℕ, zero, suc, _+_, _*_, _/_, _^_, _≤_, _<_, zero-le}
 use native.Mathlib.Nat.{lt-of-lt-of-le, lt-of-not-le, lt-suc-self, le-dest, div-lt-iff-lt-mul}
@@ -44,7 +44,7 @@ pub positive : {x r : ℕ} → x < r * r → 0 < r
 positive {r = zero} h = absurd (omega arith)
 positive {r = suc r} h = omega arith
 
--- and the quotient is below it
+-- and the other's quotient by it is below it
 pub quotient-lt : {x r : ℕ} → x < r * r → x / r < r
 quotient-lt h = div-lt-iff-lt-mul (positive h) .1 h
 

@@ -1,5 +1,5 @@
--- `compression::root::first_guess` meets its contract: the power and the quotient are as long as Halves.antt says, and a step from the
--- power is a guess.
+-- `compression::root::first_guess` meets its contract: the power and the quotient are small enough to be added, and a step from the power
+-- is a guess.
 -- Assumes nothing.
 use native.Mathlib.Omega.{arith}
 use borrow.Author.Needs.{needs}
