@@ -8,7 +8,7 @@ ghost use lib.Seq.{sets};
 ghost use Rattle.buffers.specs.Put.{atFront};
 ghost use Rattle.fields.specs.Fields.{storedAxial};
 ghost use Rattle.words.specs.Words.{jointWordCount, axialOfWord, wordOfAxial, fieldsOfWords, wordsFrom};
-ghost use Rattle.words.specs.Words.{jointOfWords, headOf, wordsOf};
+ghost use Rattle.words.specs.Words.{firstFieldsOfWords, ownFieldsOfWords, jointOfWords, headOf, wordsOf};
 ghost use Rattle.words.specs.OneFaced.{oneFacedOfWords};
 use crate::put::put_eight_u32;
 use crate::put::put_u32;
@@ -60,22 +60,43 @@ fn levers_of(words: &[u32], from: usize) -> [u32; 8]
     levers
 }
 
-// The joint of its words.
-pub fn joint_of(words: &[u32]) -> Joint
+// Fields 1 to 30 as the file stores them, from a joint's words.
+fn first_fields_of(words: &[u32]) -> [u32; FIELD_COUNT]
     requires { ⌜ jointWordCount ≤ length (now words) ⌝ }
-    ensures { λ r. ⌜ r ≡ jointOfWords (now (words .entry)) ⌝ }
+    ensures { λ r. ⌜ r ≡ firstFieldsOfWords (now (words .entry)) ⌝ }
 {
     let mut fields = [0u32; FIELD_COUNT];
     put_stored(&words[..FIELD_COUNT], AXIAL, &mut fields);
-    let levers = levers_of(words, FIELD_COUNT);
+    fields
+}
+
+// Those that a second face has of its own.
+fn own_fields_of(words: &[u32]) -> [u32; OWN_COUNT]
+    requires { ⌜ jointWordCount ≤ length (now words) ⌝ }
+    ensures { λ r. ⌜ r ≡ ownFieldsOfWords (now (words .entry)) ⌝ }
+{
     let mut own = [0u32; OWN_COUNT];
     put_stored(
         &words[FIRST_WORDS..FIRST_WORDS + OWN_COUNT],
         OWN_AXIAL,
         &mut own,
     );
+    own
+}
+
+// The joint of its words.
+pub fn joint_of(words: &[u32]) -> Joint
+    requires { ⌜ jointWordCount ≤ length (now words) ⌝ }
+    ensures { λ r. ⌜ r ≡ jointOfWords (now (words .entry)) ⌝ }
+{
+    let levers = levers_of(words, FIELD_COUNT);
     let other_levers = levers_of(words, FIRST_WORDS + OWN_COUNT);
-    fields::joint_of(fields, levers, own, other_levers)
+    fields::joint_of(
+        first_fields_of(words),
+        levers,
+        own_fields_of(words),
+        other_levers,
+    )
 }
 
 // A joint without its second face.
@@ -90,8 +111,7 @@ pub fn one_faced_of(words: &[u32]) -> OneFaced
     requires { ⌜ jointWordCount ≤ length (now words) ⌝ }
     ensures { λ r. ⌜ r ≡ oneFacedOfWords (now (words .entry)) ⌝ }
 {
-    let mut fields = [0u32; FIELD_COUNT];
-    put_stored(&words[..FIELD_COUNT], AXIAL, &mut fields);
+    let fields = first_fields_of(words);
     let levers = levers_of(words, FIELD_COUNT);
     OneFaced {
         column: fields::column_of(&fields),

@@ -1,27 +1,12 @@
 -- `joints::one_faced_of` meets its contract: fields and levers are what their functions ensure. Assumes nothing.
-use mathlib.Core.Path.{_≡_, sym, ap, ap₂, _∙_}
-use native.Mathlib.Omega.{arith}
-use denote.Ref.{now}
-use lib.ListN.{length, take}
-use lib.Seq.{length-take-le}
-use Rattle.fields.specs.Fields.{fieldCount, columnOf, boltsOf, firstFaceOf}
+use mathlib.Core.Path.{ap, ap₂, _∙_}
+use Rattle.fields.specs.Fields.{columnOf, boltsOf, firstFaceOf}
 use borrow.Author.Needs.{needs}
 use Rattle.words.proofs.joints.one_faced_of.Statement.{statement}
 use Rattle.words.proofs.joints.one_faced_of.Tie as tie
 
-some : (s : tie.Start) → length (take fieldCount (now (s .args .words))) ≡ fieldCount
-some s = length-take-le fieldCount (now (s .args .words)) (omega (arith, s .pre))
-
-slice-aggregate-put-stored : tie.Need-slice-aggregate-put-stored
-slice-aggregate-put-stored c = sym (some (c .before .before))
-
-slice-aggregate-put-stored-2 : tie.Need-slice-aggregate-put-stored-2
-slice-aggregate-put-stored-2 c = search needs
-
-put-stored-requires : tie.Need-put-stored-requires
-put-stored-requires c κs =
-    let all = some (c .before .before .before) in
-    (omega (arith, all), omega (arith, all))
+first-fields-of-requires : tie.Need-first-fields-of-requires
+first-fields-of-requires c κs = search needs
 
 levers-of-requires : tie.Need-levers-of-requires
 levers-of-requires c κs = search needs
@@ -49,7 +34,7 @@ returns c =
     let bolts = c .before .before in
     let column = bolts .before .before in
     let levers = column .before .before in
-    let fields = levers .before .before .put-stored .ensures in
+    let fields = levers .before .first-fields-of .ensures in
     λ i. record {
       column = (column .column-of .ensures ∙ ap columnOf fields) i;
       bolts = (bolts .bolts-of .ensures ∙ ap boltsOf fields) i;
@@ -60,9 +45,7 @@ pub one-faced-of-spec : {M : Type 1} → statement M
 one-faced-of-spec =
     tie.close
     (tie.spec
-    slice-aggregate-put-stored
-    slice-aggregate-put-stored-2
-    put-stored-requires
+    first-fields-of-requires
     levers-of-requires
     slice-aggregate-column-of
     column-of-requires
