@@ -37,29 +37,29 @@ pub size-most : (xs : List ℕ) {size most : ℕ} → size ≡ length (storedAll
 size-most xs size few = omega (arith, size, storedAll-short xs)
 
 -- the bytes of a file are those of its four lists
-pub numbers-size : (fields levers own others : List ℕ)
-    → length (storedAll fields) + length (storedAll levers) + length (storedAll own) + length (storedAll others)
-    ≡ length (numbersStored fields levers own others)
-numbers-size fields levers own others =
+pub numbers-size : (fields levers own otherLevers : List ℕ)
+    → length (storedAll fields) + length (storedAll levers) + length (storedAll own) + length (storedAll otherLevers)
+    ≡ length (numbersStored fields levers own otherLevers)
+numbers-size fields levers own otherLevers =
     omega (
       arith,
-      length-append (partStored fields levers) (partStored own others),
+      length-append (partStored fields levers) (partStored own otherLevers),
       length-append (storedAll fields) (storedAll levers),
-      length-append (storedAll own) (storedAll others),
+      length-append (storedAll own) (storedAll otherLevers),
     )
 
-pub numbers-fit : (fields levers own others : List ℕ) (room : ℕ) → FileParts fields levers own others
-    → 1 + 5 * (length fields - 1 + length levers + length own + length others) ≤ room
-    → true ≡ leb (length (numbersStored fields levers own others)) room
-numbers-fit fields levers own others room parts wide =
+pub numbers-fit : (fields levers own otherLevers : List ℕ) (room : ℕ) → FileParts fields levers own otherLevers
+    → 1 + 5 * (length fields - 1 + length levers + length own + length otherLevers) ≤ room
+    → true ≡ leb (length (numbersStored fields levers own otherLevers)) room
+numbers-fit fields levers own otherLevers room parts wide =
     sym (le-leb _ room
     (omega (
       arith,
-      numbers-size fields levers own others,
+      numbers-size fields levers own otherLevers,
       first-short fields (parts .count),
       storedAll-short levers,
       storedAll-short own,
-      storedAll-short others,
+      storedAll-short otherLevers,
     )))
 
 pub short-of-room : (bytes buffer : List ℕ) → leb (length bytes) (length buffer) ≡ false → turnedDown buffer 5 ≡ writingIfRoom bytes buffer
@@ -88,17 +88,17 @@ module _ (joint : Joint) {fields levers : List ℕ} {rows : ℕ} (numbers : fiel
   unfolding file partOf storedAll fieldsOf
   file-alone one = rw (one, numbers, arms, by)
 
-  module _ {own others : List ℕ} (numbers′ : own ≡ secondFields joint) (arms′ : others ≡ joint .other .levers) where
+  module _ {own otherLevers : List ℕ} (numbers′ : own ≡ secondFields joint) (arms′ : otherLevers ≡ joint .other .levers) where
     pub file-both : twoFaced (joint .face .rows) ≡ true
-        → numbersStored fields (take rows levers) own (take (joint .other .rows) others) ≡ file New joint
+        → numbersStored fields (take rows levers) own (take (joint .other .rows) otherLevers) ≡ file New joint
     unfolding file partOf fieldsOf
     file-both two = rw (two, numbers, arms, by, numbers′, arms′)
 
   -- and they are no more than a file has
   module _ (right : rowsCheck joint .1 ≡ true) where
-    pub first-counts : (own others : List ℕ) → length own ≤ ownCount → length others ≤ 8 → FileParts fields (take rows levers) own others
+    pub first-counts : (own otherLevers : List ℕ) → length own ≤ ownCount → length otherLevers ≤ 8 → FileParts fields (take rows levers) own otherLevers
     unfolding fieldsOf
-    first-counts own others own-few other-rows =
+    first-counts own otherLevers own-few other-rows =
         let few = first-rows-few joint right in
         record {
           some = rw numbers (omega arith);

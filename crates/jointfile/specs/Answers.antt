@@ -47,17 +47,17 @@ pub record PartRead (bytes : List ℕ) (from : ℕ) (first : Bool) (entry fields
 abbrev pub partStored : (fields levers : List ℕ) → List ℕ
 partStored fields levers = storedAll fields ++ storedAll levers
 
-abbrev pub numbersStored : (fields levers own others : List ℕ) → List ℕ
-numbersStored fields levers own others = partStored fields levers ++ partStored own others
+abbrev pub numbersStored : (fields levers own otherLevers : List ℕ) → List ℕ
+numbersStored fields levers own otherLevers = partStored fields levers ++ partStored own otherLevers
 
 -- The numbers of a file, no more than a file has, of which the first takes one byte.
-pub record FileParts (fields levers own others : List ℕ) : Type 0 where
+pub record FileParts (fields levers own otherLevers : List ℕ) : Type 0 where
   pub some : 1 ≤ length fields
   pub few : length fields ≤ fieldCount
   pub count : getD fields 0 0 < 128
   pub rows : length levers ≤ 8
   pub own-few : length own ≤ ownCount
-  pub other-rows : length others ≤ 8
+  pub other-rows : length otherLevers ≤ 8
 
 -- Numbers of a part that the program can hold: eight levers, and each number of the file in 32 bits. Of N that is the number that it is
 -- stored as, which takes 32 bits just where N is in the range of a signed field of 32.

@@ -177,21 +177,21 @@ pub enum Written {
 
 // No file of the new kind is shorter: a byte for each field and for one lever; and with a second face, one for each field that it has of
 // its own and for one lever of it.
-pub const LEAST_FILE: usize = FIELD_COUNT + 1;
+const LEAST_FILE: usize = FIELD_COUNT + 1;
 
 pub const LEAST_TWO_FACED: usize = LEAST_FILE + OWN_COUNT + 1;
 
 // Whether so many places hold the numbers of a file. The first takes one byte and each other at most five; only a buffer that may be too
 // short by that asks for measuring.
-fn has_room(fields: &[u32], levers: &[u32], own: &[u32], others: &[u32], room: usize) -> bool
-    requires { ⌜ FileParts (now fields) (now levers) (now own) (now others) ⌝ }
+fn has_room(fields: &[u32], levers: &[u32], own: &[u32], other_levers: &[u32], room: usize) -> bool
+    requires { ⌜ FileParts (now fields) (now levers) (now own) (now «other_levers») ⌝ }
     ensures { λ r. ⌜ r
-        ≡ leb (length (numbersStored (now (fields .entry)) (now (levers .entry)) (now (own .entry)) (now (others .entry)))) room ⌝ }
+        ≡ leb (length (numbersStored (now (fields .entry)) (now (levers .entry)) (now (own .entry)) (now («other_levers» .entry)))) room ⌝ }
 {
-    if 1 + 5 * (fields.len() - 1 + levers.len() + own.len() + others.len()) <= room {
+    if 1 + 5 * (fields.len() - 1 + levers.len() + own.len() + other_levers.len()) <= room {
         return true;
     }
-    stored_size(fields) + stored_size(levers) + stored_size(own) + stored_size(others) <= room
+    stored_size(fields) + stored_size(levers) + stored_size(own) + stored_size(other_levers) <= room
 }
 
 // Puts the numbers of a file into the buffer, if there is room for them.
@@ -199,17 +199,17 @@ fn put_file(
     fields: &[u32],
     levers: &[u32],
     own: &[u32],
-    others: &[u32],
+    other_levers: &[u32],
     buffer: &mut [u8],
 ) -> Written
-    requires { ⌜ FileParts (now fields) (now levers) (now own) (now others) ⌝ }
+    requires { ⌜ FileParts (now fields) (now levers) (now own) (now «other_levers») ⌝ }
     ensures { λ r. ⌜ writtenMeaning r (now (buffer .exit))
-        ≡ writingIfRoom (numbersStored (now (fields .entry)) (now (levers .entry)) (now (own .entry)) (now (others .entry)))
+        ≡ writingIfRoom (numbersStored (now (fields .entry)) (now (levers .entry)) (now (own .entry)) (now («other_levers» .entry)))
         (now (buffer .entry)) ⌝ }
 {
-    if has_room(fields, levers, own, others, buffer.len()) {
+    if has_room(fields, levers, own, other_levers, buffer.len()) {
         let after_first = put_part(buffer, 0, fields, levers);
-        let size = put_part(buffer, after_first, own, others);
+        let size = put_part(buffer, after_first, own, other_levers);
         return Written::Length(size);
     }
     Written::Refused(5)
@@ -280,12 +280,12 @@ fn write_parts(joint: Joint, buffer: &mut [u8]) -> Written
     ensures { λ r. ⌜ writtenMeaning r (now (buffer .exit)) ≡ writingIfRoom (file New joint) (now (buffer .entry)) ⌝ }
 {
     let face = joint.face;
-    let other = joint.other;
     let levers = levers_of(face);
-    let other_levers = levers_of(other);
     let rows = first_rows(face.rows) as usize;
     let fields = fields_of(joint.column, joint.bolts, face);
     if is_two_faced(face.rows) {
+        let other = joint.other;
+        let other_levers = levers_of(other);
         let other_rows = other.rows as usize;
         let own = own_of(fields_of(joint.column, joint.bolts, other));
         return put_file(
@@ -296,14 +296,9 @@ fn write_parts(joint: Joint, buffer: &mut [u8]) -> Written
             buffer,
         );
     }
-    let own = [0; OWN_COUNT];
-    put_file(
-        &fields,
-        &levers[..rows],
-        &own[..0],
-        &other_levers[..0],
-        buffer,
-    )
+    let own = [0; 0];
+    let other_levers = [0; 0];
+    put_file(&fields, &levers[..rows], &own, &other_levers, buffer)
 }
 
 // Writes a joint's file, of the new kind, to the front of the buffer. Each refusal is tried on both faces before the next.

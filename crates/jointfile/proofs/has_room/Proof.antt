@@ -53,7 +53,7 @@ add-if1-4 c = search needs
 returns : tie.Need-returns
 returns c =
     let s = start (c .before) in
-    numbers-fit (now (s .args .fields)) (now (s .args .levers)) (now (s .args .own)) (now (s .args .others)) (s .args .room) (s .pre)
+    numbers-fit (now (s .args .fields)) (now (s .args .levers)) (now (s .args .own)) (now (s .args .other-levers)) (s .args .room) (s .pre)
     (c .if1 .taken)
 
 stored-size-requires : tie.Need-stored-size-requires
@@ -88,7 +88,7 @@ returns-2 c =
       c .stored-size4 .ensures,
     )
     (ap (λ (n : ℕ). leb n (args .room))
-    (numbers-size (now (args .fields)) (now (args .levers)) (now (args .own)) (now (args .others))))
+    (numbers-size (now (args .fields)) (now (args .levers)) (now (args .own)) (now (args .other-levers))))
 
 pub has-room-spec : {M : Type 1} → statement M
 has-room-spec =

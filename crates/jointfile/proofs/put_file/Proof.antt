@@ -33,7 +33,7 @@ second c = c .before .before
 abbrev bytes : tie.Then1 → List ℕ
 bytes c =
     let args = start c .args in
-    numbersStored (now (args .fields)) (now (args .levers)) (now (args .own)) (now (args .others))
+    numbersStored (now (args .fields)) (now (args .levers)) (now (args .own)) (now (args .other-levers))
 
 -- there is room for them, as was found
 room : (c : tie.Then1) → leb (length (bytes c)) (length (now (start c .args .buffer))) ≡ true
@@ -50,7 +50,7 @@ has-room-requires c κs = search needs
 put-part-requires : tie.Need-put-part-requires
 put-part-requires c κs =
     let args = start (c .before) .args in
-    room-first (partStored (now (args .fields)) (now (args .levers))) (partStored (now (args .own)) (now (args .others))) 0 _
+    room-first (partStored (now (args .fields)) (now (args .levers))) (partStored (now (args .own)) (now (args .other-levers))) 0 _
     (fits (c .before))
 
 put-part-requires-2 : tie.Need-put-part-requires-2

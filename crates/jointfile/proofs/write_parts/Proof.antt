@@ -17,7 +17,7 @@ use Rattle.jointfile.proofs.write_parts.Tie as tie
 -- ---- the places: the call's start, the first face's numbers, the second's, and what was put
 
 abbrev start : tie.After-first-rows → tie.Start
-start c = c .before .before .before .before .before .before
+start c = c .before .before .before .before
 
 abbrev first : tie.After-is-two-faced → tie.After-fields-of
 first c = c .before
@@ -25,8 +25,11 @@ first c = c .before
 abbrev rows : tie.After-is-two-faced → tie.After-first-rows
 rows c = first c .before
 
+abbrev second-levers : tie.After-own-of → tie.After-levers-of2
+second-levers c = c .before .before .before
+
 abbrev asked : tie.After-own-of → tie.After-is-two-faced
-asked c = c .before .before .before .before
+asked c = second-levers c .before .before .before
 
 abbrev second : tie.After-put-file-arg → tie.After-own-of
 second c = c .before .before .before .before .before
@@ -42,19 +45,19 @@ put-alone c = c .before .before
 
 -- ---- what is known there
 
-first-few : (c : tie.After-first-rows) → c .first-rows .result ≤ length (c .before .before .levers-of .result)
+first-few : (c : tie.After-first-rows) → c .first-rows .result ≤ length (c .before .levers-of .result)
 first-few c = omega (arith, c .first-rows .ensures, first-rows-few (start c .args .joint) (start c .pre))
 
 two : (c : tie.After-own-of) → twoFaced (start (rows (asked c)) .args .joint .face .rows) ≡ true
-two c = sym (asked c .is-two-faced .ensures) ∙ c .before .before .before .if1 .taken
+two c = sym (asked c .is-two-faced .ensures) ∙ second-levers c .before .before .if1 .taken
 
 second-eight : (c : tie.After-levers-of2) → length (c .levers-of2 .result) ≡ 8
 second-eight c = omega arith
 
-second-few : (c : tie.After-own-of) → start (rows (asked c)) .args .joint .other .rows ≤ length (rows (asked c) .before .levers-of2 .result)
+second-few : (c : tie.After-own-of) → start (rows (asked c)) .args .joint .other .rows ≤ length (second-levers c .levers-of2 .result)
 second-few c =
     let s = start (rows (asked c)) in
-    rw (second-eight (rows (asked c) .before)) (second-rows-few (s .args .joint) (s .pre) (two c))
+    rw (second-eight (second-levers c)) (second-rows-few (s .args .joint) (s .pre) (two c))
 
 own : (c : tie.After-own-of) → c .own-of .result ≡ secondFields (start (rows (asked c)) .args .joint)
 own c = c .own-of .ensures ∙ ap ownOf (c .before .fields-of2 .ensures)
@@ -63,9 +66,6 @@ own c = c .own-of .ensures ∙ ap ownOf (c .before .fields-of2 .ensures)
 
 levers-of-requires : tie.Need-levers-of-requires
 levers-of-requires c κs = search needs
-
-levers-of-requires-2 : tie.Need-levers-of-requires-2
-levers-of-requires-2 c κs = search needs
 
 first-rows-requires : tie.Need-first-rows-requires
 first-rows-requires c κs = search needs
@@ -78,6 +78,9 @@ fields-of-requires c κs = search needs
 
 is-two-faced-requires : tie.Need-is-two-faced-requires
 is-two-faced-requires c κs = search needs
+
+levers-of-requires-2 : tie.Need-levers-of-requires-2
+levers-of-requires-2 c κs = search needs
 
 cast-other-rows : tie.Need-cast-other-rows
 cast-other-rows c = search needs
@@ -112,11 +115,11 @@ put-file-requires c κs =
     let asked-two = asked own-read in
     let s = start (rows asked-two) in
     let joint = s .args .joint in
-    first-counts joint (first asked-two .fields-of .ensures) (rows asked-two .before .before .levers-of .ensures)
+    first-counts joint (first asked-two .fields-of .ensures) (rows asked-two .before .levers-of .ensures)
     (rows asked-two .first-rows .ensures) (s .pre) _ _ (rw (own own-read) (own-count joint))
     (omega (
       arith,
-      length-take (joint .other .rows) (rows asked-two .before .levers-of2 .result),
+      length-take (joint .other .rows) (second-levers own-read .levers-of2 .result),
       second-rows-few joint (s .pre) (two own-read),
     ))
 
@@ -129,8 +132,8 @@ returns c =
     let asked-two = asked own-read in
     let s = start (rows asked-two) in
     let is =
-    file-both (s .args .joint) (first asked-two .fields-of .ensures) (rows asked-two .before .before .levers-of .ensures)
-    (rows asked-two .first-rows .ensures) (own own-read) (rows asked-two .before .levers-of2 .ensures) (two own-read) in
+    file-both (s .args .joint) (first asked-two .fields-of .ensures) (rows asked-two .before .levers-of .ensures)
+    (rows asked-two .first-rows .ensures) (own own-read) (second-levers own-read .levers-of2 .ensures) (two own-read) in
     rw (← is) (put c .put-file .ensures)
 
 slice-aggregate-put-file-5 : tie.Need-slice-aggregate-put-file-5
@@ -142,14 +145,8 @@ array-share-prefix-levers-2 c = first-few (rows (c .before .before))
 slice-aggregate-put-file-6 : tie.Need-slice-aggregate-put-file-6
 slice-aggregate-put-file-6 c = sym (length-take-le _ _ (first-few (rows (c .before .before .before))))
 
-array-share-prefix-own : tie.Need-array-share-prefix-own
-array-share-prefix-own c = search needs
-
 slice-aggregate-put-file-7 : tie.Need-slice-aggregate-put-file-7
 slice-aggregate-put-file-7 c = search needs
-
-array-share-prefix-other-levers-2 : tie.Need-array-share-prefix-other-levers-2
-array-share-prefix-other-levers-2 c = search needs
 
 slice-aggregate-put-file-8 : tie.Need-slice-aggregate-put-file-8
 slice-aggregate-put-file-8 c = search needs
@@ -158,7 +155,7 @@ put-file-requires-2 : tie.Need-put-file-requires-2
 put-file-requires-2 c κs =
     let asked-two = asked-alone c in
     let s = start (rows asked-two) in
-    first-counts (s .args .joint) (first asked-two .fields-of .ensures) (rows asked-two .before .before .levers-of .ensures)
+    first-counts (s .args .joint) (first asked-two .fields-of .ensures) (rows asked-two .before .levers-of .ensures)
     (rows asked-two .first-rows .ensures) (s .pre) _ _ (omega arith) (omega arith)
 
 same-length-2 : tie.Need-same-length-2
@@ -170,7 +167,7 @@ returns-2 c =
     let s = start (rows asked-two) in
     let one = sym (asked-two .is-two-faced .ensures) ∙ put-alone c .before .before .before .before .before .before .if1 .left in
     let is =
-    file-alone (s .args .joint) (first asked-two .fields-of .ensures) (rows asked-two .before .before .levers-of .ensures)
+    file-alone (s .args .joint) (first asked-two .fields-of .ensures) (rows asked-two .before .levers-of .ensures)
     (rows asked-two .first-rows .ensures) one in
     rw (← is) (put-alone c .put-file2 .ensures)
 
@@ -179,11 +176,11 @@ write-parts-spec =
     tie.close
     (tie.spec
     levers-of-requires
-    levers-of-requires-2
     first-rows-requires
     cast-rows
     fields-of-requires
     is-two-faced-requires
+    levers-of-requires-2
     cast-other-rows
     fields-of-requires-2
     own-of-requires
@@ -199,9 +196,7 @@ write-parts-spec =
     slice-aggregate-put-file-5
     array-share-prefix-levers-2
     slice-aggregate-put-file-6
-    array-share-prefix-own
     slice-aggregate-put-file-7
-    array-share-prefix-other-levers-2
     slice-aggregate-put-file-8
     put-file-requires-2
     same-length-2
