@@ -1,15 +1,14 @@
--- What a loop that compares two lists of one length place by place knows, and that lists found the same are equal. Assumes nothing.
+-- What a loop that compares two lists place by place knows. Assumes nothing.
 use Prim.Native.Nat.{ℕ, suc, _+_, _≤_, _<_}
-use mathlib.Core.Path.{_≡_, refl, sym, ap, _∙_}
-use mathlib.Core.Bool.{cond, true, false}
-use mathlib.Core.List.{List, [], _∷_}
+use mathlib.Core.Path.{_≡_, refl, sym, _∙_}
+use mathlib.Core.Bool.{cond}
+use mathlib.Core.List.{List}
 use native.Mathlib.Numerals.{add-one}
 use native.Mathlib.Omega.{arith}
 use lib.Dec.{eqb}
 use lib.ListN.{length, getD, drop, drop-of-length-le}
 use lib.Seq.{drop-cons}
 use borrow.Author.Tests.{eq-eqb, ne-eqb}
-use Rattle.vectors.specs.declared.compare.Comparison.{Comparison}
 use Rattle.vectors.specs.declared.compare.Comparison.the-variants.{Same, Differs, Unreadable}
 use Rattle.vectors.specs.Difference.{firstDifference, compared}
 
