@@ -3,14 +3,15 @@ use Prim.Native.Nat.{ℕ, _+_, _≤_}
 use mathlib.Core.Path.{_≡_, sym, _∙_}
 use mathlib.Core.Bool.{true}
 use mathlib.Core.List.{List}
-use native.Mathlib.Nat.{zero-add}
+use native.Mathlib.Omega.{arith}
 use borrow.Author.Tests.{leb-true}
 use lib.Dec.{leb}
-use lib.ListN.{length}
+use lib.ListN.{length, length-append}
 use denote.Ref.{now}
-use Rattle.buffers.proofs.Puts.{put-both, room-first, room-after}
-use Rattle.jointfile.specs.Answers.{partStored, numbersStored}
-use Rattle.jointfile.proofs.IfRoom.{short-of-room, put-in-room}
+use Rattle.buffers.proofs.Puts.{put-both, put-length}
+use Rattle.numbers.specs.Run.{storedAll}
+use Rattle.jointfile.specs.Answers.{numbersStored}
+use Rattle.jointfile.proofs.IfRoom.{numbers-size, short-of-room, put-in-room}
 use borrow.Author.Needs.{needs}
 use Rattle.jointfile.proofs.put_file.Statement.{statement}
 use Rattle.jointfile.proofs.put_file.Tie as tie
@@ -39,8 +40,19 @@ bytes c =
 room : (c : tie.Then1) → leb (length (bytes c)) (length (now (start c .args .buffer))) ≡ true
 room c = sym (c .before .has-room .ensures) ∙ c .if1 .taken
 
-fits : (c : tie.Then1) → 0 + length (bytes c) ≤ length (now (start c .args .buffer))
-fits c = rw zero-add (leb-true _ _ (room c))
+-- whatever the order of its four lists
+fits : (c : tie.Then1)
+    → (let args = start c .args in
+    length (storedAll (now (args .fields))) + length (storedAll (now (args .levers))) + length (storedAll (now (args .own)))
+    + length (storedAll (now (args .other-levers)))
+    ≤ length (now (args .buffer)))
+fits c =
+    let args = start c .args in
+    omega (
+      arith,
+      numbers-size (now (args .fields)) (now (args .levers)) (now (args .own)) (now (args .other-levers)),
+      leb-true (length (bytes c)) (length (now (args .buffer))) (room c),
+    )
 
 -- ---- the needs
 
@@ -48,13 +60,12 @@ has-room-requires : tie.Need-has-room-requires
 has-room-requires c κs = search needs
 
 put-part-requires : tie.Need-put-part-requires
-put-part-requires c κs =
-    let args = start (c .before) .args in
-    room-first (partStored (now (args .fields)) (now (args .levers))) (partStored (now (args .own)) (now (args .other-levers))) 0 _
-    (fits (c .before))
+put-part-requires c κs = rw length-append (omega (arith, fits (c .before)))
 
 put-part-requires-2 : tie.Need-put-part-requires-2
-put-part-requires-2 c κs = room-after _ (first c .put-part .ensures) (fits (tested (first c)))
+put-part-requires-2 c κs =
+    let put = first c .put-part .ensures in
+    rw length-append (omega (arith, rw length-append at (put .place), put-length put, fits (tested (first c))))
 
 same-length : tie.Need-same-length
 same-length c = search needs
