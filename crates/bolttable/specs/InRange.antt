@@ -1,0 +1,16 @@
+-- How large what a table lists can be: the bounds have their names here and are cited by them in the crates above. Assumes nothing.
+use Prim.Native.Nat.{ℕ, _*_, _/_}
+use lib.Dec.{T}
+use Rattle.arithmetic.specs.Range.{Within, _to_}
+use Rattle.bolttable.specs.Loading.{boltDiameters}
+use Rattle.bolttable.specs.Area.{isListed, areaNumber}
+use Rattle.bolttable.specs.declared.BoltArea.{BoltArea}
+
+-- no A is above this, that of the greatest diameter
+abbrev pub mostArea : ℕ
+mostArea = 785 * boltDiameters .high * boltDiameters .high / 100
+
+-- what every table lists for a diameter
+pub record AreaInRange (diameter : ℕ) (area : BoltArea) : Type 0 where
+  pub listed : T (isListed area) → Within boltDiameters diameter
+  pub most : Within (0 to mostArea) (areaNumber area)
