@@ -9,6 +9,7 @@ use lib.Dec.{ltb}
 use borrow.Author.Tests.{ltb-false, eq-eqb, not-true}
 use Rattle.arithmetic.specs.Checks.{firstFailing, checksBefore}
 use Rattle.arithmetic.proofs.Checks.{numbered, positive, numbered-holds}
+use Rattle.bolttable.specs.declared.BoltArea.{BoltArea}
 use Rattle.joint.specs.Ranges.{rowCounts}
 use Rattle.joint.specs.Fields.{fieldCheck}
 use Rattle.joint.specs.InRange.{ColumnInRange, FaceInRange, InRange}
@@ -18,13 +19,13 @@ use Rattle.joint.specs.declared.Face.{Face}
 use Rattle.joint.specs.declared.FieldCheck.{FieldCheck}
 use Rattle.joint.specs.declared.FieldCheck.the-variants.{AllInRange, Outside}
 use Rattle.joint.proofs.InRange.{in-range}
-use Rattle.strength.specs.Bolt.{boltStrengths}
 use Rattle.strength.specs.declared.BoltStrengths.{BoltStrengths}
 use Rattle.spacing.specs.Spacing.{leastDistance, leastEdge, spacingOf}
 use Rattle.tension.specs.Admissible.{Admissible}
 use Rattle.refusals.specs.Refusals.{leversFall, tooTight}
 use Rattle.refusals.proofs.Rows.{falls}
 use Rattle.outcome.specs.declared.FaceOutcome.{FaceOutcome}
+use Rattle.connection.specs.OneFace.{boltOf}
 use Rattle.connection.specs.Connection.{refusedFace, refusedAfter10, refusalsAfter10, completed, resultOf, workedFace, workedBy}
 use Rattle.connection.specs.Connection.{workedConnection}
 use Rattle.connection.specs.declared.Admission.the-variants.{Admitted, Refused}
@@ -84,14 +85,14 @@ not-refused panelCounts column bolt face answer e none =
     (refusalsAfter10 panelCounts column bolt face) tt e
 
 -- where a connection is not refused its fields are in range, and the answer is the face's
-pub in-range-of : (panelCounts : Bool) (column : Column) (bolts : Bolts) (face : Face) (answer : FaceOutcome)
-    → workedConnection panelCounts column bolts face ≡ answer → answer .number ≡ 0
-    → InRange column bolts face × (workedFace panelCounts column (boltStrengths bolts) face ≡ answer)
+pub in-range-of : (panelCounts : Bool) (column : Column) (bolts : Bolts) (area : BoltArea) (face : Face) (answer : FaceOutcome)
+    → workedConnection panelCounts column bolts area face ≡ answer → answer .number ≡ 0
+    → InRange column bolts area face × (workedFace panelCounts column (boltOf bolts area) face ≡ answer)
 unfolding workedConnection
-in-range-of panelCounts column bolts face answer e none = by-fields (fieldCheck column bolts face) refl e
+in-range-of panelCounts column bolts area face answer e none = by-fields (fieldCheck column bolts area face) refl e
   where
-    by-fields : (found : FieldCheck) → fieldCheck column bolts face ≡ found
-        → workedBy found (workedFace panelCounts column (boltStrengths bolts) face) ≡ answer
-        → InRange column bolts face × (workedFace panelCounts column (boltStrengths bolts) face ≡ answer)
-    by-fields AllInRange found w = (in-range column bolts face found, w)
+    by-fields : (found : FieldCheck) → fieldCheck column bolts area face ≡ found
+        → workedBy found (workedFace panelCounts column (boltOf bolts area) face) ≡ answer
+        → InRange column bolts area face × (workedFace panelCounts column (boltOf bolts area) face ≡ answer)
+    by-fields AllInRange found w = (in-range column bolts area face found, w)
     by-fields (Outside field) found w = let never = refusal-is 10 field answer w none in absurd (omega arith)

@@ -12,12 +12,12 @@ use lib.Dec.{leb→le, le→leb}
 use lib.IntN.{pos}
 use borrow.Author.Tests.{not-true}
 use Rattle.arithmetic.proofs.Checks.{numbered}
+use Rattle.bolttable.specs.declared.BoltArea.{BoltArea}
 use Rattle.joint.specs.Ranges.{rowCounts}
 use Rattle.joint.specs.declared.Bolts.{Bolts}
 use Rattle.joint.specs.declared.Column.{Column}
 use Rattle.joint.specs.declared.Face.{Face}
 use Rattle.joint.specs.InRange.{ColumnInRange, FaceInRange}
-use Rattle.strength.specs.Bolt.{boltStrengths}
 use Rattle.strength.specs.declared.BoltStrengths.{BoltStrengths}
 use Rattle.joint.proofs.InRange.{row-lever}
 use Rattle.sharing.specs.Groups.{Table, withCap}
@@ -31,7 +31,7 @@ use Rattle.governing.proofs.Cases.{cap-newtons}
 use Rattle.verdicts.specs.Bending.{carries}
 use Rattle.verdicts.proofs.Signs.{carries-monotone}
 use Rattle.outcome.specs.declared.FaceOutcome.{FaceOutcome}
-use Rattle.connection.specs.OneFace.{rowsOf, leversOf, limitOf, capOf, forcesOf, carriesOf}
+use Rattle.connection.specs.OneFace.{boltOf, rowsOf, leversOf, limitOf, capOf, forcesOf, carriesOf}
 use Rattle.connection.specs.Connection.{refusalsAfter10, resultOf, workedFace, workedConnection}
 use Rattle.connection.specs.Demand.{CompetesFor, Demand3, Demand3For, programsList}
 use Rattle.connection.proofs.Forces.{rows-kept}
@@ -116,9 +116,10 @@ of-face panelCounts column bolt face c f eight answer e none =
     rw (sym (all .1)) (demand panelCounts column bolt face a eight (cap-newtons _ _ (not-true _ (all .0 15))))
 
 -- Demand 3: for every connection whose answer is no refusal. A face in the machine has eight levers.
-pub worked-demand : (panelCounts : Bool) (column : Column) (bolts : Bolts) (face : Face) → length (face .levers) ≡ rowCounts .high
-    → (answer : FaceOutcome) → workedConnection panelCounts column bolts face ≡ answer → answer .number ≡ 0
-    → Demand3For panelCounts column bolts face (answer .result)
-worked-demand panelCounts column bolts face eight answer e none =
-    let taken = in-range-of panelCounts column bolts face answer e none in
-    of-face panelCounts column (boltStrengths bolts) face (taken .0 .column) (taken .0 .face) eight answer (taken .1) none
+pub worked-demand : (panelCounts : Bool) (column : Column) (bolts : Bolts) (area : BoltArea) (face : Face)
+    → length (face .levers) ≡ rowCounts .high
+    → (answer : FaceOutcome) → workedConnection panelCounts column bolts area face ≡ answer → answer .number ≡ 0
+    → Demand3For panelCounts column bolts area face (answer .result)
+worked-demand panelCounts column bolts area face eight answer e none =
+    let taken = in-range-of panelCounts column bolts area face answer e none in
+    of-face panelCounts column (boltOf bolts area) face (taken .0 .column) (taken .0 .face) eight answer (taken .1) none

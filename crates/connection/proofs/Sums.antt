@@ -3,12 +3,12 @@ use mathlib.Core.Path.{_≡_, sym, ap}
 use mathlib.Core.Bool.{Bool}
 use Prim.Native.Nat.{_+_, _^_, _≤_, _<_}
 use native.Mathlib.Omega.{arith}
+use Rattle.bolttable.specs.declared.BoltArea.{BoltArea}
 use Rattle.joint.specs.InRange.{ColumnInRange, FaceInRange, InRange}
 use Rattle.joint.specs.Ranges.{loads}
 use Rattle.joint.specs.declared.Bolts.{Bolts}
 use Rattle.joint.specs.declared.Column.{Column}
 use Rattle.joint.specs.declared.Face.{Face}
-use Rattle.strength.specs.Bolt.{boltStrengths}
 use Rattle.strength.specs.declared.BoltStrengths.{BoltStrengths}
 use Rattle.sharing.specs.Groups.{total, withCap}
 use Rattle.sharing.proofs.Theorems.{best}
@@ -21,7 +21,7 @@ use Rattle.governing.specs.Governing.{forceOf}
 use Rattle.governing.proofs.Cases.{cap-le}
 use Rattle.governing.proofs.Least.{governing-le-bearing}
 use Rattle.outcome.specs.declared.FaceOutcome.{FaceOutcome}
-use Rattle.connection.specs.OneFace.{rowsOf, limitOf, steelOf, governingOf, capOf, forcesOf}
+use Rattle.connection.specs.OneFace.{boltOf, rowsOf, limitOf, steelOf, governingOf, capOf, forcesOf}
 use Rattle.connection.specs.Connection.{resultOf, workedConnection}
 use Rattle.connection.proofs.Answers.{not-refused, in-range-of}
 
@@ -46,13 +46,13 @@ module _ (panelCounts : Bool) (column : Column) (face : Face) where
       omega (arith, cap-le (face .loads) (forceOf (governingOf panelCounts column face)), force-le c f, f .loads .axial .high)
 
 -- what is known of a connection that isn't refused: its fields are in range, and the sum of its forces is small
-pub taken : (panelCounts : Bool) (column : Column) (bolts : Bolts) (face : Face) (answer : FaceOutcome)
-    → workedConnection panelCounts column bolts face ≡ answer → answer .number ≡ 0
-    → InRange column bolts face × (answer .result .sum < 2 ^ 32)
+pub taken : (panelCounts : Bool) (column : Column) (bolts : Bolts) (area : BoltArea) (face : Face) (answer : FaceOutcome)
+    → workedConnection panelCounts column bolts area face ≡ answer → answer .number ≡ 0
+    → InRange column bolts area face × (answer .result .sum < 2 ^ 32)
 unfolding resultOf
-taken panelCounts column bolts face answer e none =
-    let inside = in-range-of panelCounts column bolts face answer e none in
-    let bolt = boltStrengths bolts in
+taken panelCounts column bolts area face answer e none =
+    let inside = in-range-of panelCounts column bolts area face answer e none in
+    let bolt = boltOf bolts area in
     let whole = not-refused panelCounts column bolt face answer (inside .1) none .1 in
     let sum : answer .result .sum ≡ total (forcesOf panelCounts column bolt face) = ap (λ a. a .result .sum) (sym whole) in
     let small = cap-small panelCounts column face (inside .0 .column) (inside .0 .face) in

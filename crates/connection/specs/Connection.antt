@@ -4,6 +4,7 @@ use mathlib.Core.Bool.{Bool, false, not}
 use mathlib.Core.List.{List, [], _∷_}
 use lib.ListN.{replicate}
 use Rattle.arithmetic.specs.Checks.{Check, firstFailing}
+use Rattle.bolttable.specs.declared.BoltArea.{BoltArea}
 use Rattle.joint.specs.Ranges.{rowCounts}
 use Rattle.joint.specs.Fields.{fieldCheck}
 use Rattle.joint.specs.declared.Bolts.{Bolts}
@@ -14,7 +15,6 @@ use Rattle.joint.specs.declared.FieldCheck.the-variants.{AllInRange, Outside}
 use Rattle.sharing.specs.Groups.{total}
 use Rattle.sharing.specs.Sharing.{newtonMetres}
 use Rattle.joint.specs.Places.{eightPlaces}
-use Rattle.strength.specs.Bolt.{boltStrengths}
 use Rattle.strength.specs.Thickness.{bothTooThick}
 use Rattle.strength.specs.declared.BoltStrengths.{BoltStrengths}
 use Rattle.spacing.specs.Spacing.{spacingOf}
@@ -22,7 +22,7 @@ use Rattle.governing.specs.Governing.{forceOf}
 use Rattle.governing.specs.Cap.{overCompressed, newtonsOf}
 use Rattle.governing.specs.declared.CompressionCheck.the-variants.{Flange}
 use Rattle.refusals.specs.Refusals.{leversFall, rowsInPlace, tooTight}
-use Rattle.connection.specs.OneFace.{steelOf, governingOf, capOf, forcesOf, momentOf, verdictsOf}
+use Rattle.connection.specs.OneFace.{boltOf, steelOf, governingOf, capOf, forcesOf, momentOf, verdictsOf}
 use Rattle.outcome.specs.declared.FaceResult.{FaceResult}
 use Rattle.outcome.specs.declared.FaceOutcome.{FaceOutcome}
 
@@ -84,8 +84,8 @@ abbrev pub workedBy : FieldCheck → FaceOutcome → FaceOutcome
 workedBy AllInRange outcome = outcome
 workedBy (Outside field) outcome = refusedFace 10 field
 
--- A connection: one face, whatever its fields are, on the column with its bolts.
-unfoldable pub workedConnection : (panelCounts : Bool) → Column → Bolts → Face → FaceOutcome
+-- A connection: one face, whatever its fields are, on the column with its bolts and the area that the table in force lists for them.
+unfoldable pub workedConnection : (panelCounts : Bool) → Column → Bolts → BoltArea → Face → FaceOutcome
 unfolding workedFace
-workedConnection panelCounts column bolts face =
-    workedBy (fieldCheck column bolts face) (workedFace panelCounts column (boltStrengths bolts) face)
+workedConnection panelCounts column bolts area face =
+    workedBy (fieldCheck column bolts area face) (workedFace panelCounts column (boltOf bolts area) face)

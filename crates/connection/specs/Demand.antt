@@ -7,15 +7,15 @@ use mathlib.Core.List.{List}
 use lib.ListN.{take}
 use lib.IntN.{pos}
 use lib.Signed.{_≤ℤ_}
+use Rattle.bolttable.specs.declared.BoltArea.{BoltArea}
 use Rattle.joint.specs.declared.Bolts.{Bolts}
 use Rattle.joint.specs.declared.Column.{Column}
 use Rattle.joint.specs.declared.Face.{Face}
-use Rattle.strength.specs.Bolt.{boltStrengths}
 use Rattle.strength.specs.declared.BoltStrengths.{BoltStrengths}
 use Rattle.sharing.specs.Groups.{total}
 use Rattle.sharing.specs.Sharing.{Competes}
 use Rattle.outcome.specs.declared.FaceResult.{FaceResult}
-use Rattle.connection.specs.OneFace.{rowsOf, limitOf, capOf, momentOf, carriesOf}
+use Rattle.connection.specs.OneFace.{boltOf, rowsOf, limitOf, capOf, momentOf, carriesOf}
 
 -- rule 7.1: a list competes when it has a whole number of newtons for each row and keeps every group's limit, before any lowering, and
 -- the cap
@@ -43,6 +43,6 @@ pub record Demand3 (panelCounts : Bool) (column : Column) (bolt : BoltStrengths)
       ↔ ((other : List ℕ) → CompetesFor panelCounts column bolt face other → carriesOf face other ≡ false)
 
 -- Demand 3 of what a face comes to: its forces and its verdict on bending.
-abbrev pub Demand3For : (panelCounts : Bool) → Column → Bolts → Face → FaceResult → Type 0
-Demand3For panelCounts column bolts face result =
-    Demand3 panelCounts column (boltStrengths bolts) face (result .forces) (result .verdicts .bending)
+abbrev pub Demand3For : (panelCounts : Bool) → Column → Bolts → BoltArea → Face → FaceResult → Type 0
+Demand3For panelCounts column bolts area face result =
+    Demand3 panelCounts column (boltOf bolts area) face (result .forces) (result .verdicts .bending)

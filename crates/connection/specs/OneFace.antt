@@ -6,8 +6,12 @@ use mathlib.Core.Bool.{Bool}
 use mathlib.Core.List.{List}
 use lib.ListN.{take}
 use lib.IntN.{ℤ}
+use Rattle.bolttable.specs.Area.{areaNumber}
+use Rattle.bolttable.specs.declared.BoltArea.{BoltArea}
+use Rattle.joint.specs.declared.Bolts.{Bolts}
 use Rattle.joint.specs.declared.Column.{Column}
 use Rattle.joint.specs.declared.Face.{Face}
+use Rattle.strength.specs.Bolt.{boltStrengths}
 use Rattle.strength.specs.Steel.{steelStrengths}
 use Rattle.strength.specs.declared.SteelStrengths.{SteelStrengths}
 use Rattle.strength.specs.declared.BoltStrengths.{BoltStrengths}
@@ -22,6 +26,10 @@ use Rattle.verdicts.specs.Bending.{carries}
 use Rattle.verdicts.specs.Bolts.{boltsPass}
 use Rattle.verdicts.specs.Welds.{flangeWeldPasses, webWeldPasses}
 use Rattle.outcome.specs.declared.Verdicts.{Verdicts}
+
+-- the figures of bolts, by the area that the table in force lists for them
+abbrev pub boltOf : Bolts → BoltArea → BoltStrengths
+boltOf bolts area = boltStrengths bolts (areaNumber area)
 
 abbrev pub rowsOf : Face → ℕ
 rowsOf face = face .rows

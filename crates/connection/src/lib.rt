@@ -5,6 +5,7 @@ ghost use mathlib.Core.Bool.{Bool};
 ghost use Prim.Native.Nat.{ℕ, _≤_};
 ghost use lib.ListN.{length, getD, take};
 ghost use Rattle.arithmetic.specs.Checks.{firstFailing, checksBefore, checksFrom};
+ghost use Rattle.bolttable.specs.InRange.{AreaInRange};
 ghost use Rattle.joint.specs.Ranges.{rowCounts};
 ghost use Rattle.joint.specs.Places.{eightPlaces};
 ghost use Rattle.compression.specs.InRange.{PartsInRange, mostBearing};
@@ -18,6 +19,7 @@ ghost use Rattle.connection.specs.Demand.{Demand3For};
 ghost use Rattle.connection.specs.Steps.{measuresOf, FaceAsked, AdmitAsked, AdmittedFace, FaceCap, Tallied};
 ghost use Rattle.connection.specs.declared.Admission.the-variants.{Admitted, Refused};
 use arithmetic::least;
+use bolttable::BoltArea;
 use governing::Cap;
 use governing::CompressionCheck;
 use joint::Bolts;
@@ -45,16 +47,24 @@ pub enum Admission {
 }
 
 // Works any face on its column: the whole result, or the first refusal in their order that holds. Panel shear counts in the cap, or not.
-// The row forces are the best there are: demand 3, in specs/Demand.antt.
-pub fn work_connection(panel_counts: bool, column: Column, bolts: Bolts, face: Face) -> FaceOutcome
-    ensures equals { λ r. ⌜ r ≡ workedConnection «panel_counts» column bolts face ⌝ }
-    ensures demand { λ r. ⌜ (r .number ≡ 0 → Demand3For «panel_counts» column bolts face (r .result)) ⌝ }
+// The row forces are the best there are: demand 3, in specs/Demand.antt. Open for Work and the exported calls, which have the area from a
+// bolt table.
+pub fn work_connection(
+    panel_counts: bool,
+    column: Column,
+    bolts: Bolts,
+    area: BoltArea,
+    face: Face,
+) -> FaceOutcome
+    requires { ⌜ AreaInRange (bolts .diameter) area ⌝ }
+    ensures equals { λ r. ⌜ r ≡ workedConnection «panel_counts» column bolts area face ⌝ }
+    ensures demand { λ r. ⌜ (r .number ≡ 0 → Demand3For «panel_counts» column bolts area face (r .result)) ⌝ }
 {
-    let found = joint::check_fields(column, bolts, face);
+    let found = joint::check_fields(column, bolts, area, face);
     match found {
         FieldCheck::Outside(field) => refused(10, field),
         FieldCheck::AllInRange => {
-            let bolt = strength::bolt_strengths(bolts);
+            let bolt = strength::bolt_strengths(bolts, bolttable::area_number(area));
             work_face(panel_counts, column, bolt, face)
         }
     }

@@ -10,6 +10,7 @@ use lib.Seq.{drop-cons, drop-length}
 use Rattle.arithmetic.specs.Checks.{Check, firstFailing}
 use Rattle.arithmetic.specs.Range.{within}
 use Rattle.arithmetic.proofs.Checks.{stops, goes-on}
+use Rattle.bolttable.specs.declared.BoltArea.{BoltArea}
 use Rattle.joint.specs.Ranges.{levers}
 use Rattle.joint.specs.Fields.{headChecks, gradeChecks, columnChecks, beamChecks, plateChecks, weldChecks, loadChecks, leverChecks}
 use Rattle.joint.specs.Fields.{fixedChecks, fieldChecks, fieldCheck}
@@ -52,7 +53,7 @@ module _ (rows row : ℕ) (hs : List ℕ) where
 
 -- ---- the fields from each part of the check on
 
-module _ (column : Column) (bolts : Bolts) (face : Face) where
+module _ (column : Column) (bolts : Bolts) (area : BoltArea) (face : Face) where
   abbrev pub from-levers : List Check
   from-levers = leverChecks (face .rows) 0 (face .levers)
 
@@ -74,6 +75,6 @@ module _ (column : Column) (bolts : Bolts) (face : Face) where
   abbrev pub from-grades : List Check
   from-grades = gradeChecks (column .grade) (face .beam .grade) (face .plate .grade) ++ from-column
 
-  pub from-head : foundBy (headChecks (face .rows) (face .extended) bolts ++ from-grades) ≡ fieldCheck column bolts face
+  pub from-head : foundBy (headChecks (face .rows) (face .extended) (bolts .class) area ++ from-grades) ≡ fieldCheck column bolts area face
   unfolding fieldCheck fieldChecks fixedChecks
   from-head = refl

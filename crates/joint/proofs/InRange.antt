@@ -17,6 +17,7 @@ use Rattle.arithmetic.specs.Checks.{Check}
 use Rattle.arithmetic.specs.Range.{Within, within, _to_}
 use Rattle.arithmetic.proofs.Checks.{all-hold}
 use Rattle.arithmetic.proofs.Bounds.{within-yes}
+use Rattle.bolttable.specs.declared.BoltArea.{BoltArea}
 use Rattle.joint.specs.Ranges.{rowCounts, flags, depths, widths, flanges, webs, radii, clears, plateWidths, thicknesses}
 use Rattle.joint.specs.Ranges.{gauges, edges, alphas, legs, weldLengths, shearRowCounts, loads, endDistances, mostLever, levers}
 use Rattle.joint.specs.Fields.{fieldCheck, fieldChecks, fixedChecks, leverChecks, withinBothSigns}
@@ -43,12 +44,13 @@ size : (force : ℤ) → T (withinBothSigns force) → Within loads (natAbs forc
 size (pos n) t = record { low = zero-le; high = leb→le n (loads .high) t }
 size (negsuc n) t = record { low = zero-le; high = let h = leb→le n 9999999 (and-yes (leb n 9999999) true t .0) in omega arith }
 
-module _ (column : Column) (bolts : Bolts) (face : Face) (found : fieldCheck column bolts face ≡ AllInRange) where
-  held : (place : ℕ) → T (test (fieldChecks column bolts face) place)
+module _ (column : Column) (bolts : Bolts) (area : BoltArea) (face : Face)
+    (found : fieldCheck column bolts area face ≡ AllInRange) where
+  held : (place : ℕ) → T (test (fieldChecks column bolts area face) place)
   unfolding fieldCheck
-  held = all-hold AllInRange Outside apart (fieldChecks column bolts face) found
+  held = all-hold AllInRange Outside apart (fieldChecks column bolts area face) found
 
-  field : (number : ℕ) → T (test (fieldChecks column bolts face) (number - 1))
+  field : (number : ℕ) → T (test (fieldChecks column bolts area face) (number - 1))
   field number = held (number - 1)
 
   lever : (row : ℕ) → row < length (face .levers) → Within (levers (face .rows) row) (getD (face .levers) row 0)
@@ -56,13 +58,13 @@ module _ (column : Column) (bolts : Bolts) (face : Face) (found : fieldCheck col
   lever row h =
       let n = face .rows in
       let hs = face .levers in
-      let after-fixed = getD-append-add (fixedChecks column bolts face) (leverChecks n 0 hs) row (0, true) in
-      let test-at : test (fieldChecks column bolts face) (30 + row) ≡ within (levers n row) (getD hs row 0) =
+      let after-fixed = getD-append-add (fixedChecks column bolts area face) (leverChecks n 0 hs) row (0, true) in
+      let test-at : test (fieldChecks column bolts area face) (30 + row) ≡ within (levers n row) (getD hs row 0) =
       ap (λ (check : Check). check .1) after-fixed ∙ lever-test n 0 hs row h
       ∙ ap (λ (i : ℕ). within (levers n i) (getD hs row 0)) (zero-add row) in
       within-yes (levers n row) (getD hs row 0) (subst (λ (b : Bool). T b) test-at (held (30 + row)))
 
-  pub in-range : InRange column bolts face
+  pub in-range : InRange column bolts area face
   unfolding fieldChecks fixedChecks
   in-range =
       let beam = face .beam in

@@ -8,7 +8,9 @@ use lib.Signed.{leZ}
 use Rattle.arithmetic.specs.Checks.{Check, firstFailing}
 use Rattle.arithmetic.specs.Range.{within}
 use Rattle.arithmetic.specs.Table.{oneOf}
-use Rattle.joint.specs.Ranges.{rowCounts, flags, classes, diameters, grades, depths, widths, flanges, webs, radii, clears}
+use Rattle.bolttable.specs.Area.{isListed}
+use Rattle.bolttable.specs.declared.BoltArea.{BoltArea}
+use Rattle.joint.specs.Ranges.{rowCounts, flags, classes, grades, depths, widths, flanges, webs, radii, clears}
 use Rattle.joint.specs.Ranges.{plateWidths, thicknesses, gauges, edges, alphas, legs, weldLengths, shearRowCounts}
 use Rattle.joint.specs.Ranges.{loads, endDistances, levers}
 use Rattle.joint.specs.declared.Column.{Column}
@@ -22,13 +24,13 @@ use Rattle.joint.specs.declared.Face.{Face}
 use Rattle.joint.specs.declared.FieldCheck.{FieldCheck}
 use Rattle.joint.specs.declared.FieldCheck.the-variants.{AllInRange, Outside}
 
--- 1 to 4
-abbrev pub headChecks : (rows extended : ℕ) → Bolts → List Check
-headChecks rows extended bolts =
+-- 1 to 4: the diameter is one that the bolt table in force lists
+abbrev pub headChecks : (rows extended class : ℕ) → BoltArea → List Check
+headChecks rows extended class area =
     (1, within rowCounts rows)
     ∷ (2, within flags extended)
-    ∷ (3, oneOf classes (bolts .class))
-    ∷ (4, oneOf diameters (bolts .diameter))
+    ∷ (3, oneOf classes class)
+    ∷ (4, isListed area)
     ∷ []
 
 -- 5 to 7
@@ -93,9 +95,9 @@ leverChecks n row [] = []
 leverChecks n row (h ∷ hs) = (31 + row, within (levers n row) h) ∷ leverChecks n (suc row) hs
 
 -- 1 to 30
-unfoldable pub fixedChecks : Column → Bolts → Face → List Check
-fixedChecks column bolts face =
-    headChecks (face .rows) (face .extended) bolts
+unfoldable pub fixedChecks : Column → Bolts → BoltArea → Face → List Check
+fixedChecks column bolts area face =
+    headChecks (face .rows) (face .extended) (bolts .class) area
     ++ gradeChecks (column .grade) (face .beam .grade) (face .plate .grade)
     ++ columnChecks column
     ++ beamChecks (face .beam)
@@ -103,13 +105,13 @@ fixedChecks column bolts face =
     ++ weldChecks (face .welds) (face .«shear_rows»)
     ++ loadChecks (face .loads) (column .«end_distance»)
 
--- all fields of a column, its bolts and one face
-unfoldable pub fieldChecks : Column → Bolts → Face → List Check
-fieldChecks column bolts face = fixedChecks column bolts face ++ leverChecks (face .rows) 0 (face .levers)
+-- all fields of a column, its bolts with the area that the table in force lists for them, and one face
+unfoldable pub fieldChecks : Column → Bolts → BoltArea → Face → List Check
+fieldChecks column bolts area face = fixedChecks column bolts area face ++ leverChecks (face .rows) 0 (face .levers)
 
 -- what checking them answers
-unfoldable pub fieldCheck : Column → Bolts → Face → FieldCheck
-fieldCheck column bolts face = firstFailing AllInRange Outside (fieldChecks column bolts face)
+unfoldable pub fieldCheck : Column → Bolts → BoltArea → Face → FieldCheck
+fieldCheck column bolts area face = firstFailing AllInRange Outside (fieldChecks column bolts area face)
 
 -- the field that an answer tells, 0 where all are in range
 abbrev pub fieldOf : FieldCheck → ℕ

@@ -6,7 +6,9 @@ use lib.IntN.{natAbs}
 use lib.ListN.{length, getD}
 use Rattle.arithmetic.specs.Range.{Within}
 use Rattle.arithmetic.specs.Table.{oneOf}
-use Rattle.joint.specs.Ranges.{rowCounts, flags, classes, diameters, grades, depths, widths, flanges, webs, radii, clears}
+use Rattle.bolttable.specs.Area.{isListed}
+use Rattle.bolttable.specs.declared.BoltArea.{BoltArea}
+use Rattle.joint.specs.Ranges.{rowCounts, flags, classes, grades, depths, widths, flanges, webs, radii, clears}
 use Rattle.joint.specs.Ranges.{plateWidths, thicknesses, gauges, edges, alphas, legs, weldLengths, shearRowCounts}
 use Rattle.joint.specs.Ranges.{loads, endDistances, levers}
 use Rattle.joint.specs.declared.Column.{Column}
@@ -28,9 +30,10 @@ pub record ColumnInRange (column : Column) : Type 0 where
   pub clear : Within clears (column .clear)
   pub end-distance : Within endDistances (column .«end_distance»)
 
-pub record BoltsInRange (bolts : Bolts) : Type 0 where
+-- with the area that the table in force lists for the diameter
+pub record BoltsInRange (bolts : Bolts) (area : BoltArea) : Type 0 where
   pub class : T (oneOf classes (bolts .class))
-  pub diameter : T (oneOf diameters (bolts .diameter))
+  pub diameter : T (isListed area)
 
 pub record BeamInRange (beam : Beam) : Type 0 where
   pub grade : T (oneOf grades (beam .grade))
@@ -72,7 +75,7 @@ pub record FaceInRange (face : Face) : Type 0 where
   pub lever : (row : ℕ) → row < length (face .levers) → Within (levers (face .rows) row) (getD (face .levers) row 0)
 
 -- a column, its bolts and one face of it
-pub record InRange (c : Column) (b : Bolts) (f : Face) : Type 0 where
+pub record InRange (c : Column) (b : Bolts) (a : BoltArea) (f : Face) : Type 0 where
   pub column : ColumnInRange c
-  pub bolts : BoltsInRange b
+  pub bolts : BoltsInRange b a
   pub face : FaceInRange f

@@ -18,10 +18,6 @@ flags = 0 to 1
 abbrev pub classes : List ℕ
 classes = 46 ∷ 88 ∷ 109 ∷ []
 
--- field 4, δ, in millimetres
-abbrev pub diameters : List ℕ
-diameters = 12 ∷ 16 ∷ 20 ∷ 24 ∷ 30 ∷ []
-
 -- fields 5, 6, 7
 abbrev pub grades : List ℕ
 grades = 275 ∷ 355 ∷ []

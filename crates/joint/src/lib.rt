@@ -10,6 +10,7 @@ ghost use Rattle.joint.specs.Faces.{twoFaced, firstRows, firstFace};
 ghost use Rattle.joint.specs.Fields.{fieldCheck, headChecks, gradeChecks, columnChecks, beamChecks};
 ghost use Rattle.joint.specs.Fields.{plateChecks, weldChecks, loadChecks, leverChecks};
 ghost use Rattle.joint.specs.Steps.{foundBy, Adds};
+use bolttable::BoltArea;
 
 // Fields 5, 8 to 13 and 30.
 pub struct Column {
@@ -35,7 +36,7 @@ pub struct Column {
 pub struct Bolts {
     // 3: class, 46, 88 or 109
     pub class: u32,
-    // 4: diameter δ, in millimetres
+    // 4: diameter δ, in millimetres, one of the sizes of the bolt table in force
     pub diameter: u32,
 }
 
@@ -168,12 +169,13 @@ pub enum FieldCheck {
     Outside(u32),
 }
 
-// Checks the fields of a column, its bolts and one face, in file order, and stops after the first part of them in which one fails.
-pub fn check_fields(column: Column, bolts: Bolts, face: Face) -> FieldCheck
-    ensures { λ r. ⌜ r ≡ fieldCheck column bolts face ⌝ }
+// Checks the fields of a column, its bolts and one face, in file order, and stops after the first part of them in which one fails. Of
+// field 4 it goes by what the bolt table in force lists for it.
+pub fn check_fields(column: Column, bolts: Bolts, area: BoltArea, face: Face) -> FieldCheck
+    ensures { λ r. ⌜ r ≡ fieldCheck column bolts area face ⌝ }
 {
     let levers = face.levers;
-    let head_check = check_head(face.rows, face.extended, bolts);
+    let head_check = check_head(face.rows, face.extended, bolts.class, area);
     let FieldCheck::AllInRange = head_check else {
         return head_check;
     };
@@ -242,19 +244,13 @@ fn graded(found: FieldCheck, number: u32, grade: u32) -> FieldCheck
 }
 
 // Fields 1 to 4.
-fn check_head(rows: u32, extended: u32, bolts: Bolts) -> FieldCheck
-    ensures { λ r. ⌜ r ≡ foundBy (headChecks rows extended bolts) ⌝ }
+fn check_head(rows: u32, extended: u32, class: u32, area: BoltArea) -> FieldCheck
+    ensures { λ r. ⌜ r ≡ foundBy (headChecks rows extended class area) ⌝ }
 {
-    let class = bolts.class;
-    let d = bolts.diameter;
     let count = ranged(FieldCheck::AllInRange, 1, rows, 1, 8);
     let flag = ranged(count, 2, extended, 0, 1);
     let bolt = keep(flag, 3, (class == 46) | (class == 88) | (class == 109));
-    keep(
-        bolt,
-        4,
-        (d == 12) | (d == 16) | (d == 20) | (d == 24) | (d == 30),
-    )
+    keep(bolt, 4, bolttable::is_listed(area))
 }
 
 // Fields 5 to 7.

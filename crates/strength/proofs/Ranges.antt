@@ -9,18 +9,21 @@ use mir.Facts.{yes-and}
 use Rattle.arithmetic.specs.Range.{Range, Within, within, _to_}
 use Rattle.arithmetic.specs.Table.{oneOf, lookup, upTo, any}
 use Rattle.arithmetic.proofs.Bounds.{exactly, _⊗_, _⊘_, within-yes}
-use Rattle.arithmetic.proofs.Table.{each, of-found, of-any, of-one}
-use Rattle.joint.specs.Ranges.{classes, diameters, grades}
+use Rattle.arithmetic.proofs.Table.{each, of-found, of-any}
+use Rattle.bolttable.specs.Loading.{boltDiameters}
+use Rattle.bolttable.specs.Area.{areaNumber}
+use Rattle.bolttable.specs.InRange.{AreaInRange}
+use Rattle.bolttable.specs.declared.BoltArea.{BoltArea}
+use Rattle.joint.specs.Ranges.{classes, grades}
 use Rattle.joint.specs.InRange.{ColumnInRange, BoltsInRange, BeamInRange, PlateInRange}
 use Rattle.joint.specs.declared.Column.{Column}
 use Rattle.joint.specs.declared.Bolts.{Bolts}
 use Rattle.joint.specs.declared.Beam.{Beam}
 use Rattle.joint.specs.declared.Plate.{Plate}
 use Rattle.strength.specs.Steel.{bands, steelStrength, steelStrengths, eitherIs275, weldStrength}
-use Rattle.strength.specs.Bolt.{boltArea, boltTension, boltShear, boltBearing, boltUltimate, pairTension, pairShear, boltStrengths}
+use Rattle.strength.specs.Bolt.{boltTension, boltShear, boltBearing, boltUltimate, pairTension, pairShear, boltStrengths}
 use Rattle.strength.specs.InRange.{
   yieldStrengths,
-  boltDiameters,
   boltBearings,
   ultimateStrengths,
   weldStrengths,
@@ -37,11 +40,7 @@ module _ (range : Range) (keys values : List ℕ) (t : T (each (within range) ke
   by-any : T (within range 0) → Within range (lookup keys values key)
   by-any z = within-yes range (lookup keys values key) (of-any (within range) (eqb key) keys values t z)
 
--- what a bolt has at the most, in range or not
-pub area-most : (diameter : ℕ) → Within (0 to 5610) (boltArea diameter)
-unfolding boltArea
-area-most diameter = by-any (0 to 5610) diameters (843 ∷ 1570 ∷ 2450 ∷ 3530 ∷ 5610 ∷ []) tt diameter tt
-
+-- what a class has at the most, in range or not
 pub tension-most : (class : ℕ) → Within (0 to 700) (boltTension class)
 unfolding boltTension
 tension-most class = by-any (0 to 700) classes (240 ∷ 560 ∷ 700 ∷ []) tt class tt
@@ -50,12 +49,13 @@ pub shear-most : (class : ℕ) → Within (0 to 400) (boltShear class)
 unfolding boltShear
 shear-most class = by-any (0 to 400) classes (160 ∷ 375 ∷ 400 ∷ []) tt class tt
 
-pub bolt-in-range : (bolts : Bolts) → BoltsInRange bolts → BoltInRange (boltStrengths bolts)
+pub bolt-in-range : (bolts : Bolts) (area : BoltArea) → BoltsInRange bolts area → AreaInRange (bolts .diameter) area
+    → BoltInRange (boltStrengths bolts (areaNumber area))
 unfolding pairTension pairShear boltBearing boltUltimate
-bolt-in-range bolts r = record {
-  diameter = within-yes boltDiameters (bolts .diameter) (of-one (within boltDiameters) diameters tt (bolts .diameter) (r .diameter));
-  pair-tension = exactly 2 ⊗ area-most (bolts .diameter) ⊗ tension-most (bolts .class) ⊘ 10;
-  pair-shear = exactly 2 ⊗ area-most (bolts .diameter) ⊗ shear-most (bolts .class) ⊘ 10;
+bolt-in-range bolts area r a = record {
+  diameter = a .listed (r .diameter);
+  pair-tension = exactly 2 ⊗ a .most ⊗ tension-most (bolts .class) ⊘ 10;
+  pair-shear = exactly 2 ⊗ a .most ⊗ shear-most (bolts .class) ⊘ 10;
   bearing = by-key boltBearings classes (460 ∷ 1000 ∷ 1300 ∷ []) tt (bolts .class) (r .class);
   ultimate = by-key ultimateStrengths classes (400 ∷ 800 ∷ 1000 ∷ []) tt (bolts .class) (r .class);
 }

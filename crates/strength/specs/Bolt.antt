@@ -1,16 +1,12 @@
--- Rules 3.2, 3.3 and 3.6: bolt area by diameter, a bolt's strengths by class, and what a pair of bolts takes. What a table doesn't
--- have is 0. Assumes nothing.
+-- Rules 3.3 and 3.6: a bolt's strengths by class, and what a pair of bolts takes, by the area that the bolt table in force lists (rule
+-- 3.2). What a table doesn't have is 0. Assumes nothing.
 use Prim.Native.Nat.{ℕ, _*_, _/_}
 use mathlib.Core.List.{[], _∷_}
 use Rattle.arithmetic.specs.Table.{lookup}
-use Rattle.joint.specs.Ranges.{classes, diameters}
+use Rattle.joint.specs.Ranges.{classes}
 use Rattle.joint.specs.declared.Bolts.{Bolts}
 use Rattle.strength.specs.declared.ClassStrengths.{ClassStrengths}
 use Rattle.strength.specs.declared.BoltStrengths.{BoltStrengths}
-
--- rule 3.2: A, in tenths of mm²
-unfoldable pub boltArea : (diameter : ℕ) → ℕ
-boltArea = lookup diameters (843 ∷ 1570 ∷ 2450 ∷ 3530 ∷ 5610 ∷ [])
 
 -- rule 3.3: pt
 unfoldable pub boltTension : (class : ℕ) → ℕ
@@ -28,13 +24,13 @@ boltBearing = lookup classes (460 ∷ 1000 ∷ 1300 ∷ [])
 unfoldable pub boltUltimate : (class : ℕ) → ℕ
 boltUltimate = lookup classes (400 ∷ 800 ∷ 1000 ∷ [])
 
--- rule 3.6: W
-unfoldable pub pairTension : Bolts → ℕ
-pairTension bolts = 2 * boltArea (bolts .diameter) * boltTension (bolts .class) / 10
+-- rule 3.6: W, by A in tenths of mm²
+unfoldable pub pairTension : (area class : ℕ) → ℕ
+pairTension area class = 2 * area * boltTension class / 10
 
 -- rule 3.6: S
-unfoldable pub pairShear : Bolts → ℕ
-pairShear bolts = 2 * boltArea (bolts .diameter) * boltShear (bolts .class) / 10
+unfoldable pub pairShear : (area class : ℕ) → ℕ
+pairShear area class = 2 * area * boltShear class / 10
 
 -- the four tables by class, side by side
 abbrev pub classStrengths : (class : ℕ) → ClassStrengths
@@ -45,12 +41,12 @@ classStrengths class = record {
   ultimate = boltUltimate class;
 }
 
--- what limits and verdicts need of the bolts
-abbrev pub boltStrengths : Bolts → BoltStrengths
-boltStrengths bolts = record {
+-- what limits and verdicts need of bolts that have this area
+abbrev pub boltStrengths : Bolts → (area : ℕ) → BoltStrengths
+boltStrengths bolts area = record {
   diameter = bolts .diameter;
-  «pair_tension» = pairTension bolts;
-  «pair_shear» = pairShear bolts;
+  «pair_tension» = pairTension area (bolts .class);
+  «pair_shear» = pairShear area (bolts .class);
   bearing = boltBearing (bolts .class);
   ultimate = boltUltimate (bolts .class);
 }

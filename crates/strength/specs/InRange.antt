@@ -1,7 +1,9 @@
 -- How large the strengths of a joint are whose fields are in range: each bound has its name here and is cited by it in the crates above.
 -- Assumes nothing.
-use Prim.Native.Nat.{ℕ}
+use Prim.Native.Nat.{ℕ, _*_, _/_}
 use Rattle.arithmetic.specs.Range.{Range, Within, _to_}
+use Rattle.bolttable.specs.Loading.{boltDiameters}
+use Rattle.bolttable.specs.InRange.{mostArea}
 use Rattle.joint.specs.Ranges.{flanges}
 use Rattle.joint.specs.InRange.{ColumnInRange, PlateInRange}
 use Rattle.joint.specs.declared.Column.{Column}
@@ -13,17 +15,13 @@ use Rattle.strength.specs.declared.BoltStrengths.{BoltStrengths}
 abbrev pub yieldStrengths : Range
 yieldStrengths = 255 to 355
 
--- δ, in millimetres
-abbrev pub boltDiameters : Range
-boltDiameters = 12 to 30
-
--- no W is above this: the largest bolt of the highest class
+-- no W is above this, 4501420: the largest bolt of the highest class
 abbrev pub mostPairTension : ℕ
-mostPairTension = 785400
+mostPairTension = 2 * mostArea * 700 / 10
 
--- and no S above this
+-- and no S above this, 2572240
 abbrev pub mostPairShear : ℕ
-mostPairShear = 448800
+mostPairShear = 2 * mostArea * 400 / 10
 
 abbrev pub boltBearings : Range
 boltBearings = 460 to 1300

@@ -5,10 +5,11 @@ ghost use mathlib.Core.List.{[], _∷_};
 ghost use Prim.Native.Nat.{_≤_};
 ghost use Rattle.arithmetic.specs.Range.{Within};
 ghost use Rattle.arithmetic.specs.Table.{upTo};
+ghost use Rattle.bolttable.specs.Loading.{boltDiameters};
 ghost use Rattle.strength.specs.Steel.{steelStrength, steelStrengths, steelBearing, weldStrength, bands};
-ghost use Rattle.strength.specs.Bolt.{boltArea, classStrengths, boltStrengths};
+ghost use Rattle.strength.specs.Bolt.{classStrengths, boltStrengths};
 ghost use Rattle.strength.specs.Thickness.{thicknessLimit, tooThick, bothTooThick};
-ghost use Rattle.strength.specs.InRange.{yieldStrengths, boltDiameters, ultimateStrengths, mostThickness, ThicknessInRange};
+ghost use Rattle.strength.specs.InRange.{yieldStrengths, ultimateStrengths, mostThickness, ThicknessInRange};
 use joint::Beam;
 use joint::Bolts;
 use joint::Column;
@@ -97,10 +98,11 @@ pub fn weld_strength(beam_grade: u32, plate_grade: u32) -> u64
     }
 }
 
-pub fn bolt_strengths(bolts: Bolts) -> BoltStrengths
-    ensures { λ r. ⌜ r ≡ boltStrengths bolts ⌝ }
+// The area is in tenths of mm².
+pub fn bolt_strengths(bolts: Bolts, area: u32) -> BoltStrengths
+    ensures { λ r. ⌜ r ≡ boltStrengths bolts area ⌝ }
 {
-    let pair = 2 * bolt_area(bolts.diameter);
+    let pair = 2 * (area as u64);
     let class = class_strengths(bolts.class);
     BoltStrengths {
         diameter: bolts.diameter as u64,
@@ -108,19 +110,6 @@ pub fn bolt_strengths(bolts: Bolts) -> BoltStrengths
         pair_shear: pair * class.shear / 10,
         bearing: class.bearing,
         ultimate: class.ultimate,
-    }
-}
-
-fn bolt_area(diameter: u32) -> u64
-    ensures { λ r. ⌜ r ≡ boltArea diameter ⌝ }
-{
-    match diameter {
-        12 => 843,
-        16 => 1570,
-        20 => 2450,
-        24 => 3530,
-        30 => 5610,
-        _ => 0,
     }
 }
 

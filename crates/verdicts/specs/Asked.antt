@@ -6,6 +6,7 @@ use mathlib.Core.List.{List}
 use Prim.Native.Nat.{ℕ, _+_, _*_, _≤_}
 use lib.ListN.{getD}
 use Rattle.arithmetic.specs.Range.{Range, Within, _to_}
+use Rattle.bolttable.specs.Loading.{boltDiameters}
 use Rattle.joint.specs.Ranges.{rowCounts, shearRowCounts, weldLengths, legs, mostLever}
 use Rattle.joint.specs.InRange.{ColumnInRange, BeamInRange, PlateInRange, LoadsInRange, FaceInRange}
 use Rattle.joint.specs.declared.Column.{Column}
@@ -14,7 +15,7 @@ use Rattle.joint.specs.declared.Plate.{Plate}
 use Rattle.joint.specs.declared.Loads.{Loads}
 use Rattle.joint.specs.declared.Face.{Face}
 use Rattle.strength.specs.Steel.{steelStrength, weldStrength}
-use Rattle.strength.specs.InRange.{boltDiameters, boltBearings, weldStrengths, mostThickness, mostPairShear, BoltInRange}
+use Rattle.strength.specs.InRange.{boltBearings, weldStrengths, mostThickness, mostPairShear, BoltInRange}
 use Rattle.strength.specs.declared.BoltStrengths.{BoltStrengths}
 use Rattle.sharing.specs.Groups.{mostLimit}
 

@@ -2,6 +2,9 @@
 use Prim.Native.Nat.{ℕ}
 use mathlib.Core.Bool.{true, false, cond}
 use lib.Dec.{eqb}
+use Rattle.bolttable.specs.Area.{areaOf}
+use Rattle.bolttable.specs.declared.BoltArea.{BoltArea}
+use Rattle.bolttable.specs.declared.BoltTable.{BoltTable}
 use Rattle.joint.specs.Faces.{twoFaced, firstFace}
 use Rattle.joint.specs.declared.Bolts.{Bolts}
 use Rattle.joint.specs.declared.Column.{Column}
@@ -57,18 +60,22 @@ bothTaken column first second result other = record {
 }
 
 -- rules 5.10 and 11.9: panel shear counts in neither's cap, and all of the first face's refusals come before the second's
-abbrev pub workedSecond : Column → Bolts → (first second : Face) (result : FaceResult) → Outcome
-workedSecond column bolts first second result =
-    ifTaken 2 (workedConnection false column bolts second) (bothTaken column first second result)
+abbrev pub workedSecond : Column → Bolts → BoltArea → (first second : Face) (result : FaceResult) → Outcome
+workedSecond column bolts area first second result =
+    ifTaken 2 (workedConnection false column bolts area second) (bothTaken column first second result)
 
-unfoldable pub workedFaces : Column → Bolts → (first second : Face) → Outcome
-workedFaces column bolts first second =
-    ifTaken 1 (workedConnection false column bolts first) (workedSecond column bolts first second)
+unfoldable pub workedFaces : Column → Bolts → BoltArea → (first second : Face) → Outcome
+workedFaces column bolts area first second =
+    ifTaken 1 (workedConnection false column bolts area first) (workedSecond column bolts area first second)
 
--- A joint, by field 1: where it has one face nothing of a second is looked at, and panel shear counts.
-unfoldable pub worked : Joint → Outcome
-worked joint =
+-- A joint with the area of its bolts, by field 1: where it has one face nothing of a second is looked at, and panel shear counts.
+unfoldable pub workedWith : BoltArea → Joint → Outcome
+workedWith area joint =
     let first = firstFace (joint .face) in
     cond (twoFaced (joint .face .rows))
-    (workedFaces (joint .column) (joint .bolts) first (joint .other))
-    (ofOneFace (workedConnection true (joint .column) (joint .bolts) first))
+    (workedFaces (joint .column) (joint .bolts) area first (joint .other))
+    (ofOneFace (workedConnection true (joint .column) (joint .bolts) area first))
+
+-- rule 3.8: a joint, by the area that the bolt table in force lists for its bolts
+abbrev pub worked : BoltTable → Joint → Outcome
+worked table joint = workedWith (areaOf table (joint .bolts .diameter)) joint

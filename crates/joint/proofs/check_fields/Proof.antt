@@ -3,6 +3,7 @@
 -- Assumes nothing.
 use mathlib.Core.Path.{_≡_, _∙_}
 use borrow.Author.Needs.{needs}
+use Rattle.bolttable.specs.declared.BoltArea.{BoltArea}
 use Rattle.joint.specs.Fields.{fieldCheck}
 use Rattle.joint.specs.Steps.{foundBy}
 use Rattle.joint.specs.declared.Column.{Column}
@@ -15,8 +16,8 @@ use Rattle.joint.proofs.check_fields.Statement.{statement}
 use Rattle.joint.proofs.check_fields.Tie as tie
 
 -- what a definition says of the joint
-abbrev of : {A : Type 0} → (Column → Bolts → Face → A) → tie.Start → A
-of f s = f (s .args .column) (s .args .bolts) (s .args .face)
+abbrev of : {A : Type 0} → (Column → Bolts → BoltArea → Face → A) → tie.Start → A
+of f s = f (s .args .column) (s .args .bolts) (s .args .area) (s .args .face)
 
 abbrev start : tie.After-check-head → tie.Start
 start c = c .before .before
@@ -28,7 +29,7 @@ start-head c = start (c .before .before)
 
 after-head : (c : tie.After-enum-told) {answer : FieldCheck}
     → answer ≡ foundBy (of from-grades (start-head c)) → answer ≡ of fieldCheck (start-head c)
-after-head c rest = part-holds _ _ (c .before .before .check-head .ensures) (c .enum-told .given .1) rest ∙ from-head _ _ _
+after-head c rest = part-holds _ _ (c .before .before .check-head .ensures) (c .enum-told .given .1) rest ∙ from-head _ _ _ _
 
 abbrev start-grades : tie.After-enum-told3 → tie.Start
 start-grades c = start-head (c .before .before .before)
@@ -92,7 +93,7 @@ enum-told-2 c = search needs
 returns : tie.Need-returns
 returns c =
     let s = start (c .before .before) in
-    part-stops _ (of from-grades s) (c .before .before .check-head .ensures) (c .enum-told2 .given .1) ∙ from-head _ _ _
+    part-stops _ (of from-grades s) (c .before .before .check-head .ensures) (c .enum-told2 .given .1) ∙ from-head _ _ _ _
 
 check-grades-requires : tie.Need-check-grades-requires
 check-grades-requires c κs = search needs

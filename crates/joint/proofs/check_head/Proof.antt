@@ -17,20 +17,25 @@ ranged-requires-2 c κs = search needs
 keep-requires : tie.Need-keep-requires
 keep-requires c κs = search needs
 
+is-listed-requires : tie.Need-is-listed-requires
+is-listed-requires c κs = search needs
+
 keep-requires-2 : tie.Need-keep-requires-2
 keep-requires-2 c κs = search needs
 
 returns : tie.Need-returns
 returns c =
-    let class = c .before in
+    let listed = c .before in
+    let class = listed .before in
     let extended = class .before in
     let count = extended .before in
     simp (or-false, ← or-assoc)
+    (rw (listed .is-listed .ensures) at
     (c .keep2 .ensures _
     (class .keep .ensures _
     (extended .ranged2 .ensures _
-    (count .ranged .ensures [] nothing-asked))))
+    (count .ranged .ensures [] nothing-asked)))))
 
 pub check-head-spec : {M : Type 1} → statement M
 check-head-spec =
-    tie.close (tie.spec ranged-requires ranged-requires-2 keep-requires keep-requires-2 returns)
+    tie.close (tie.spec ranged-requires ranged-requires-2 keep-requires is-listed-requires keep-requires-2 returns)

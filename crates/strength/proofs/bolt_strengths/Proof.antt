@@ -1,52 +1,50 @@
--- `strength::bolt_strengths` meets its contract: the figures are the tables', and the greatest area and strengths bound the products.
+-- `strength::bolt_strengths` meets its contract: the figures are the definition's, and an area of 32 bits and the greatest strengths bound
+-- the products.
 -- Assumes nothing.
 use mathlib.Core.Path.{_≡_}
+use Prim.Native.Nat.{ℕ, _≤_}
+use native.Mathlib.Omega.{arith}
 use borrow.Author.Needs.{needs}
-use Rattle.arithmetic.proofs.Bounds.{exactly, _⊗_, fits}
-use Rattle.strength.specs.Bolt.{boltArea, classStrengths, pairTension, pairShear}
-use Rattle.strength.proofs.Ranges.{area-most, tension-most, shear-most}
+use Rattle.arithmetic.specs.Range.{Within, _to_}
+use Rattle.arithmetic.proofs.Bounds.{exactly, atMost, _⊗_, fits}
+use Rattle.strength.specs.Bolt.{classStrengths, pairTension, pairShear}
+use Rattle.strength.proofs.Ranges.{tension-most, shear-most}
 use Rattle.strength.proofs.bolt_strengths.Statement.{statement}
 use Rattle.strength.proofs.bolt_strengths.Tie as tie
 
--- ---- what the two tables answered, at the place where both have
+-- ---- what the class answered, and how large an area can be
 
-area-is : (c : tie.After-class-strengths) → c .before .bolt-area .result ≡ boltArea (c .before .before .args .bolts .diameter)
-area-is c = c .before .bolt-area .ensures
-
-class-is : (c : tie.After-class-strengths) → c .class-strengths .result ≡ classStrengths (c .before .before .args .bolts .class)
+class-is : (c : tie.After-class-strengths) → c .class-strengths .result ≡ classStrengths (c .before .args .bolts .class)
 class-is c = c .class-strengths .ensures
+
+area-most : (c : tie.After-class-strengths) → Within (0 to 4294967295) (c .before .args .area)
+area-most c = atMost (omega arith)
 
 -- ---- the needs
 
-bolt-area-requires : tie.Need-bolt-area-requires
-bolt-area-requires c κs = search needs
-
 mul-pair : tie.Need-mul-pair
-mul-pair c = rw (c .bolt-area .ensures) (fits (exactly 2 ⊗ area-most _) tt)
+mul-pair c = search needs
 
 class-strengths-requires : tie.Need-class-strengths-requires
 class-strengths-requires c κs = search needs
 
-cast-t4 : tie.Need-cast-t4
-cast-t4 c = search needs
+cast-t5 : tie.Need-cast-t5
+cast-t5 c = search needs
 
-mul-t5 : tie.Need-mul-t5
-mul-t5 c =
+mul-t6 : tie.Need-mul-t6
+mul-t6 c =
     let answered = c .before .before in
-    rw (area-is answered, class-is answered) (fits (exactly 2 ⊗ area-most _ ⊗ tension-most _) tt)
+    rw (class-is answered) (fits (exactly 2 ⊗ area-most answered ⊗ tension-most _) tt)
 
-mul-t7 : tie.Need-mul-t7
-mul-t7 c =
+mul-t8 : tie.Need-mul-t8
+mul-t8 c =
     let answered = c .before .before .before in
-    rw (area-is answered, class-is answered) (fits (exactly 2 ⊗ area-most _ ⊗ shear-most _) tt)
+    rw (class-is answered) (fits (exactly 2 ⊗ area-most answered ⊗ shear-most _) tt)
 
 returns : tie.Need-returns
 unfolding pairTension pairShear
-returns c =
-    let answered = c .before .before .before in
-    rw (area-is answered, class-is answered)
+returns c = rw (class-is (c .before .before .before))
 
 pub bolt-strengths-spec : {M : Type 1} → statement M
 bolt-strengths-spec =
-    tie.close
-    (tie.spec bolt-area-requires mul-pair class-strengths-requires cast-t4 mul-t5 mul-t7 returns)
+    tie.close (tie.spec mul-pair class-strengths-requires cast-t5 mul-t6 mul-t8 returns)

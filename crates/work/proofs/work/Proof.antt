@@ -1,81 +1,18 @@
--- `work` meets its contract: field 1 tells whether there are two faces, and demand 3 is that of the call for one face or for both.
+-- `work` meets its contract: the area is that of the table handed over, and whatever the table it is one that a table can list.
 -- Assumes nothing.
-use mathlib.Core.Path.{_≡_, sym, ap, subst, _∙_}
-use mathlib.Core.Bool.{true, false}
-use Rattle.joint.specs.Faces.{twoFaced}
-use Rattle.joint.specs.declared.Face.{Face}
-use Rattle.outcome.specs.declared.Outcome.{Outcome}
-use Rattle.work.specs.Work.{ofOneFace, workedFaces}
-use Rattle.work.specs.Demand.{FacesDemand3}
-use Rattle.work.proofs.Cases.{of-two, of-one, demand-alone, demand-both}
 use borrow.Author.Needs.{needs}
+use Rattle.bolttable.proofs.Areas.{area-in-range}
 use Rattle.work.proofs.work.Statement.{statement}
 use Rattle.work.proofs.work.Tie as tie
 
--- ---- the places
+area-of-requires : tie.Need-area-of-requires
+area-of-requires c κs = search needs
 
-abbrev start : tie.After-is-two-faced → tie.Start
-start c = c .before .before .before .before
-
-abbrev with-both : tie.After-first-face → tie.Then1
-with-both c = c .before .before
-
--- ---- what field 1 says
-
-two-faced : (c : tie.Then1) → twoFaced (start (c .before) .args .joint .face .rows) ≡ true
-two-faced c = sym (c .before .is-two-faced .ensures) ∙ c .if1 .taken
-
-alone : (c : tie.Else1) → twoFaced (start (c .before) .args .joint .face .rows) ≡ false
-alone c = sym (c .before .is-two-faced .ensures) ∙ c .if1 .left
-
--- ---- the needs
-
-is-two-faced-requires : tie.Need-is-two-faced-requires
-is-two-faced-requires c κs = search needs
-
-first-face-requires : tie.Need-first-face-requires
-first-face-requires c κs = search needs
-
-work-faces-requires : tie.Need-work-faces-requires
-work-faces-requires c κs = search needs
+work-with-requires : tie.Need-work-with-requires
+work-with-requires c κs = rw (c .area-of .ensures) (area-in-range _ _)
 
 returns : tie.Need-returns
-returns c =
-    let both = with-both (c .before) in
-    let j = start (both .before) .args .joint in
-    let first = c .before .first-face .ensures in (
-      c .work-faces .ensures .0 ∙ ap (λ (face : Face). workedFaces (j .column) (j .bolts) face (j .other)) first
-          ∙ of-two j (two-faced both),
-      (λ none. demand-both j _ (two-faced both)
-          (subst (λ (face : Face). FacesDemand3 (j .column) (j .bolts) face (j .other) (c .work-faces .result)) first
-          (c .work-faces .ensures .1 none))),
-    )
-
-work-connection-requires : tie.Need-work-connection-requires
-work-connection-requires c κs = search needs
-
-of-one-face-requires : tie.Need-of-one-face-requires
-of-one-face-requires c κs = search needs
-
-returns-2 : tie.Need-returns-2
-returns-2 c =
-    let worked = c .before in
-    let one = worked .before in
-    let j = start (one .before) .args .joint in
-    let is = c .of-one-face .ensures in (
-      is ∙ ap ofOneFace (worked .work-connection .ensures .0) ∙ of-one j (alone one),
-      (λ none. demand-alone j _ (alone one)
-          (rw is (worked .work-connection .ensures .1 (sym (ap (λ (o : Outcome). o .refusal .number) is) ∙ none)))),
-    )
+returns c = rw (c .before .area-of .ensures) at (c .work-with .ensures)
 
 pub work-spec : {M : Type 1} → statement M
-work-spec =
-    tie.close
-    (tie.spec
-    is-two-faced-requires
-    first-face-requires
-    work-faces-requires
-    returns
-    work-connection-requires
-    of-one-face-requires
-    returns-2)
+work-spec = tie.close (tie.spec area-of-requires work-with-requires returns)

@@ -24,7 +24,7 @@ second-worked c = c .before .before
 -- ---- the needs
 
 work-connection-requires : tie.Need-work-connection-requires
-work-connection-requires c κs = search needs
+work-connection-requires c κs = c .pre
 
 refused-requires : tie.Need-refused-requires
 refused-requires c κs = search needs
@@ -34,12 +34,12 @@ returns c =
     let worked = c .before .before .before in
     let a = start worked .args in (
       c .refused .ensures
-          ∙ first-refused (a .column) (a .bolts) (a .first) (a .second) (worked .work-connection .ensures .0) (c .before .if1 .taken),
+          ∙ first-refused (a .column) (a .bolts) (a .area) (a .first) (a .second) (worked .work-connection .ensures .0) (c .before .if1 .taken),
       (λ none. absurd (c .before .if1 .taken (refusal-is _ _ 1 _ (c .refused .ensures) none))),
     )
 
 work-connection-requires-2 : tie.Need-work-connection-requires-2
-work-connection-requires-2 c κs = search needs
+work-connection-requires-2 c κs = start (first-worked c) .pre
 
 refused-requires-2 : tie.Need-refused-requires-2
 refused-requires-2 c κs = search needs
@@ -51,7 +51,7 @@ returns-2 c =
     let worked = first-worked one in
     let a = start worked .args in (
       c .refused2 .ensures
-          ∙ second-refused (a .column) (a .bolts) (a .first) (a .second) (worked .work-connection .ensures .0) (one .if1 .left)
+          ∙ second-refused (a .column) (a .bolts) (a .area) (a .first) (a .second) (worked .work-connection .ensures .0) (one .if1 .left)
           (two .work-connection2 .ensures .0) (c .before .if2 .taken),
       (λ none. absurd (c .before .if2 .taken (refusal-is _ _ 2 _ (c .refused2 .ensures) none))),
     )
@@ -63,8 +63,8 @@ panel-verdict-requires c κs =
     let one = first-taken two in
     let worked = first-worked one in
     let a = start worked .args in
-    let first = taken _ (a .column) (a .bolts) (a .first) _ (sym (worked .work-connection .ensures .0)) (one .if1 .left) in
-    let second = taken _ (a .column) (a .bolts) (a .second) _ (sym (two .work-connection2 .ensures .0)) (both .if2 .left) in (
+    let first = taken _ (a .column) (a .bolts) (a .area) (a .first) _ (sym (worked .work-connection .ensures .0)) (one .if1 .left) in
+    let second = taken _ (a .column) (a .bolts) (a .area) (a .second) _ (sym (two .work-connection2 .ensures .0)) (both .if2 .left) in (
       first .0 .column,
       record {
         first-small = first .1;
@@ -87,7 +87,7 @@ returns-3 c =
         other = two .work-connection2 .result .result;
         panel = c .panel-verdict .ensures i;
       })
-          ∙ both-taken (a .column) (a .bolts) (a .first) (a .second) (worked .work-connection .ensures .0) (one .if1 .left)
+          ∙ both-taken (a .column) (a .bolts) (a .area) (a .first) (a .second) (worked .work-connection .ensures .0) (one .if1 .left)
           (two .work-connection2 .ensures .0) (both .if2 .left),
       (λ none. record {
         of-first = worked .work-connection .ensures .1 (one .if1 .left);
