@@ -23,7 +23,9 @@ use Rattle.outcome.specs.declared.PanelVerdict.{PanelVerdict}
 use Rattle.line.specs.Longest.{mostLine}
 use Rattle.line.specs.Line.{isAsked, concatenated}
 use Rattle.line.proofs.Lines.{refusal-short, concatenated-append, outcome-few, outcome-short}
-use Rattle.work.specs.Work.{worked}
+use Rattle.printer.specs.Sheet.{workedBuiltIn}
+use Rattle.bolttable.specs.Area.{areaOf}
+use Rattle.bolttable.specs.Loading.{builtIn}
 use Rattle.work.proofs.Cases.{panel-alone}
 use Rattle.printer.specs.Sheet.{sheetKind, mostInput, jointLines, linesThen, linesWithin, linesOf, overLong, sheetLines}
 use Rattle.printer.specs.Sheet.{sheetOf}
@@ -35,8 +37,8 @@ joint-lines : (number : ℕ) (bytes : List ℕ) (joint : Joint) (left : List ℕ
     → length left + leastPerLine * length (jointLines number joint) ≤ length bytes
 joint-lines number bytes joint left took = go (twoFaced (joint .face .rows)) refl
   where
-    few : length (jointLines number joint) ≤ cond (isAsked (worked joint .panel)) 2 1
-    few = outcome-few number (firstRows (joint .face .rows)) (joint .other .rows) (worked joint)
+    few : length (jointLines number joint) ≤ cond (isAsked (workedBuiltIn joint .panel)) 2 1
+    few = outcome-few number (firstRows (joint .face .rows)) (joint .other .rows) (workedBuiltIn joint)
 
     two : (t : Bool) → cond t 2 1 ≤ 2
     two true = omega arith
@@ -44,10 +46,10 @@ joint-lines number bytes joint left took = go (twoFaced (joint .face .rows)) ref
 
     go : (t : Bool) → twoFaced (joint .face .rows) ≡ t
         → length left + leastPerLine * length (jointLines number joint) ≤ length bytes
-    go true both = omega (arith, few, two (isAsked (worked joint .panel)), two-faced-size bytes joint left took both)
+    go true both = omega (arith, few, two (isAsked (workedBuiltIn joint .panel)), two-faced-size bytes joint left took both)
     go false alone =
         let most : PanelVerdict → ℕ = λ panel. cond (isAsked panel) 2 1 in
-        let one = ap most (panel-alone joint alone) in
+        let one = ap most (panel-alone (areaOf builtIn (joint .bolts .diameter)) joint alone) in
         omega (arith, few, one, file-size bytes joint left took)
 
 lines-few : (most number : ℕ) (bytes : List ℕ) → Bytes bytes
@@ -86,7 +88,7 @@ lines-short (suc most) number (byte ∷ bytes) = go (lines-short most (number + 
         let others = linesWithin most (number + 1) left in
         let lines = jointLines number joint in
         rw (concatenated-append lines others, length-append (concatenated lines), length-append lines others)
-        (omega (arith, short left, outcome-short number (firstRows (joint .face .rows)) (joint .other .rows) (worked joint)))
+        (omega (arith, short left, outcome-short number (firstRows (joint .face .rows)) (joint .other .rows) (workedBuiltIn joint)))
     go short (refused r) = rw length-append (omega (arith, refusal-short number (r ∷ []) (omega arith)))
 
 -- the lines of so many bytes are no longer than `mostPrinted` says

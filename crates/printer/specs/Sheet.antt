@@ -4,6 +4,7 @@ use mathlib.Core.List.{List, [], _∷_, _++_}
 use mathlib.Core.Bool.{cond}
 use lib.Dec.{ltb}
 use lib.ListN.{length}
+use Rattle.bolttable.specs.Loading.{builtIn}
 use Rattle.joint.specs.Faces.{firstRows}
 use Rattle.joint.specs.declared.Joint.{Joint}
 use Rattle.numbers.specs.Parse.{Parse, got, refused}
@@ -13,15 +14,20 @@ use Rattle.jointfile.specs.declared.FileKind.the-variants.{New}
 use Rattle.items.specs.Digits.{decimal}
 use Rattle.items.specs.Items.{letter}
 use Rattle.line.specs.Line.{Line, lineOf, refusalLine, outcomeLines, concatenated}
+use Rattle.outcome.specs.declared.Outcome.{Outcome}
 use Rattle.work.specs.Work.{worked}
 
 -- rule 9.7: it reads files of the new kind
 abbrev pub sheetKind : FileKind
 sheetKind = New
 
+-- rule 12.1: it works them with the bolts built in
+abbrev pub workedBuiltIn : Joint → Outcome
+workedBuiltIn joint = worked builtIn joint
+
 -- what the sheet prints of a joint that was read: rows are shown without the mark of a second face
 abbrev pub jointLines : (number : ℕ) → Joint → List Line
-jointLines number joint = outcomeLines number (firstRows (joint .face .rows)) (joint .other .rows) (worked joint)
+jointLines number joint = outcomeLines number (firstRows (joint .face .rows)) (joint .other .rows) (workedBuiltIn joint)
 
 -- rules 12.3 and 12.4: the lines of a joint that was read with those of the bytes left, or the line of one that wasn't, which is the last
 abbrev pub linesThen : (others : List ℕ → List Line) (number : ℕ) → Parse Joint → List Line

@@ -1,6 +1,7 @@
 // The sheet (rules 12): joint files end to end in, a line out for each face, or one for a refusal. Each joint is read once, worked once and
 // put straight into the caller's buffer; the input is walked by the place after each joint. Only where the output may be too short are the
 // lines measured first, since such an output stays as it was.
+use joint::Joint;
 use joint::first_rows;
 use jointfile::FileKind;
 use jointfile::LEAST_TWO_FACED;
@@ -11,7 +12,7 @@ use line::outcome_size;
 use line::put_outcome;
 use line::put_read_refusal;
 use line::read_refusal_size;
-use work::work;
+use outcome::Outcome;
 ghost use Prim.Native.Nat.{_+_, _≤_};
 ghost use mathlib.Core.Path.{_≡_};
 ghost use mathlib.Core.List.{[], _∷_};
@@ -19,7 +20,7 @@ ghost use lib.Dec.{leb};
 ghost use lib.ListN.{length};
 ghost use Rattle.buffers.specs.Put.{Put};
 ghost use Rattle.line.specs.Line.{concatenated};
-ghost use Rattle.printer.specs.Sheet.{mostInput, linesOf, overLong, sheetOf};
+ghost use Rattle.printer.specs.Sheet.{mostInput, workedBuiltIn, linesOf, overLong, sheetOf};
 ghost use Rattle.printer.specs.Answers.{printing, printedMeaning, mostPrinted, readingLines};
 
 // Joints count from 1.
@@ -129,6 +130,13 @@ fn put_joints(input: &[u8], output: &mut [u8]) -> usize
     at
 }
 
+// A joint worked with the bolts built in.
+fn work_built_in(joint: Joint) -> Outcome
+    ensures { λ r. ⌜ r ≡ workedBuiltIn joint ⌝ }
+{
+    work::work(bolttable::built_in(), joint)
+}
+
 // The size of the lines of what was read.
 fn reading_size(number: u64, reading: Reading) -> usize
     ensures { λ r. ⌜ r ≡ length (concatenated (readingLines number reading)) ⌝ }
@@ -136,7 +144,7 @@ fn reading_size(number: u64, reading: Reading) -> usize
     if reading.refusal == 0 {
         let joint = reading.joint;
         let rows = first_rows(joint.face.rows);
-        return outcome_size(number, rows, joint.other.rows, work(joint));
+        return outcome_size(number, rows, joint.other.rows, work_built_in(joint));
     }
     read_refusal_size(number, reading.refusal)
 }
@@ -149,7 +157,7 @@ fn put_reading(output: &mut [u8], at: usize, number: u64, reading: Reading) -> u
     if reading.refusal == 0 {
         let joint = reading.joint;
         let rows = first_rows(joint.face.rows);
-        return put_outcome(output, at, number, rows, joint.other.rows, work(joint));
+        return put_outcome(output, at, number, rows, joint.other.rows, work_built_in(joint));
     }
     put_read_refusal(output, at, number, reading.refusal)
 }

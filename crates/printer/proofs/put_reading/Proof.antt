@@ -16,7 +16,7 @@ use Rattle.printer.proofs.put_reading.Tie as tie
 abbrev start : tie.After-struct-known → tie.Start
 start c = c .before .before
 
-abbrev was-read : tie.After-work → tie.Then1
+abbrev was-read : tie.After-work-built-in → tie.Then1
 was-read c = c .before .before .before .before
 
 abbrev turned-down : tie.After-put-read-refusal-arg → tie.Else1
@@ -24,15 +24,15 @@ turned-down c = c .before
 
 -- ---- which lines they are
 
-worked-lines : (c : tie.After-work)
+worked-lines : (c : tie.After-work-built-in)
     → let args = start (was-read c .before) .args in
     readingLines (args .number) (args .reading)
-    ≡ outcomeLines (args .number) (c .before .before .first-rows .result) (args .reading .joint .other .rows) (c .work .result)
+    ≡ outcomeLines (args .number) (c .before .before .first-rows .result) (args .reading .joint .other .rows) (c .work-built-in .result)
 worked-lines c =
     let args = start (was-read c .before) .args in
     let lines : ℕ → Outcome → List Line = λ rows outcome. outcomeLines (args .number) rows (args .reading .joint .other .rows) outcome in
     sym
-    (ap₂ lines (c .before .before .first-rows .ensures) (c .work .ensures .0)
+    (ap₂ lines (c .before .before .first-rows .ensures) (c .work-built-in .ensures)
     ∙ reading-joint (args .number) (args .reading) (was-read c .if1 .taken))
 
 refused-line : (c : tie.After-put-read-refusal-arg)
@@ -47,8 +47,8 @@ refused-line c =
 first-rows-requires : tie.Need-first-rows-requires
 first-rows-requires c κs = search needs
 
-work-requires : tie.Need-work-requires
-work-requires c κs = search needs
+work-built-in-requires : tie.Need-work-built-in-requires
+work-built-in-requires c κs = search needs
 
 put-outcome-requires : tie.Need-put-outcome-requires
 put-outcome-requires c κs = rw (worked-lines c) at (start (was-read c .before) .pre)
@@ -77,7 +77,7 @@ put-reading-spec =
     tie.close
     (tie.spec
     first-rows-requires
-    work-requires
+    work-built-in-requires
     put-outcome-requires
     same-length
     returns

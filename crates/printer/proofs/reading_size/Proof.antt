@@ -14,8 +14,8 @@ use Rattle.printer.proofs.reading_size.Tie as tie
 first-rows-requires : tie.Need-first-rows-requires
 first-rows-requires c κs = search needs
 
-work-requires : tie.Need-work-requires
-work-requires c κs = search needs
+work-built-in-requires : tie.Need-work-built-in-requires
+work-built-in-requires c κs = search needs
 
 outcome-size-requires : tie.Need-outcome-size-requires
 outcome-size-requires c κs = search needs
@@ -28,7 +28,7 @@ returns c =
     let lines : ℕ → Outcome → ℕ = λ rows outcome.
     length (concatenated (outcomeLines (args .number) rows (args .reading .joint .other .rows) outcome)) in
     c .outcome-size .ensures
-    ∙ ap₂ lines (worked .before .first-rows .ensures) (worked .work .ensures .0)
+    ∙ ap₂ lines (worked .before .first-rows .ensures) (worked .work-built-in .ensures)
     ∙ ap (λ (shown : List Line). length (concatenated shown)) (reading-joint (args .number) (args .reading) (tested .if1 .taken))
 
 read-refusal-size-requires : tie.Need-read-refusal-size-requires
@@ -46,7 +46,7 @@ reading-size-spec =
     tie.close
     (tie.spec
     first-rows-requires
-    work-requires
+    work-built-in-requires
     outcome-size-requires
     returns
     read-refusal-size-requires
