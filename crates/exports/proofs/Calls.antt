@@ -12,6 +12,9 @@ use lib.Seq.{getD-set-other, getD-take, take-at, drop-at, take-append-le, getD-a
 use Rattle.arithmetic.specs.Checks.{Check, firstFailing}
 use Rattle.arithmetic.proofs.Checks.{one-after-another}
 use Rattle.buffers.specs.Put.{atFront}
+use Rattle.bolttable.specs.Area.{areaOf}
+use Rattle.bolttable.specs.declared.BoltArea.{BoltArea}
+use Rattle.bolttable.specs.declared.BoltTable.{BoltTable}
 use Rattle.joint.specs.Faces.{twoFaced, firstFace}
 use Rattle.joint.specs.declared.Bolts.{Bolts}
 use Rattle.joint.specs.declared.Column.{Column}
@@ -38,20 +41,21 @@ use Rattle.outcome.specs.declared.FaceOutcome.{FaceOutcome}
 use Rattle.outcome.specs.declared.FaceResult.{FaceResult}
 use Rattle.outcome.specs.declared.Outcome.{Outcome}
 use Rattle.outcome.specs.declared.Refusal.{Refusal}
-use Rattle.strength.specs.Bolt.{boltStrengths}
+use Rattle.connection.specs.OneFace.{boltOf}
 use Rattle.connection.specs.Connection.{noResult, refusedAfter10, refusalsAfter10, workedFace, workedBy, workedConnection}
 use Rattle.connection.specs.Demand.{Demand3For}
-use Rattle.work.specs.Work.{refusedOutcome, ofOneFace, ifTaken, bothTaken, workedSecond, workedFaces, worked}
+use Rattle.work.specs.Work.{refusedOutcome, ofOneFace, ifTaken, bothTaken, workedSecond, workedFaces, workedWith, worked}
 use Rattle.work.specs.Demand.{Demand3Of}
 use Rattle.printer.specs.Sheet.{sheetOf}
 use Rattle.printer.specs.Answers.{printing, printedMeaning}
 use Rattle.printer.specs.declared.Printed.{Printed}
 use Rattle.words.specs.Words.{firstWordCount, jointWordCount, wordsFrom, fieldsOfWords, firstFieldsOfWords, jointOfWords}
+use Rattle.words.specs.Tables.{tableWordCount, tableOfWords}
 use Rattle.words.specs.Results.{faceWordCount, outcomeWordCount, flag, figureWords, resultWords, panelFlag}
 use Rattle.words.specs.OneFaced.{oneFaceWords}
 use Rattle.words.specs.Results.{outcomeWords}
 use Rattle.exports.specs.Answers.{answers, answerNumber}
-use Rattle.exports.specs.Calls.{filePut, writingInto, Demand3OfFace, Demand3OfWords, WorkedInto, sheetAnswer}
+use Rattle.exports.specs.Calls.{filePut, writingInto, Demand3OfFace, Demand3OfWords, EnoughWords, WorkedInto, sheetAnswer}
 use Rattle.exports.specs.Calls.{sheetingInto}
 use Rattle.exports.proofs.Answers.{turned-down, taken, refused as answer-refused}
 
@@ -153,29 +157,29 @@ levers-within n row (h ∷ hs) few =
     rw (le-leb 1 (31 + row) (omega arith), le-leb (31 + row) firstWordCount (omega arith)) (levers-within n (suc row) hs (omega arith))
 
 -- of one face, worked alone
-module _ (panelCounts : Bool) (column : Column) (bolts : Bolts) (face : Face) where
-  field-small : length (face .levers) ≡ 8 → fieldOf (fieldCheck column bolts face) ≤ firstWordCount
+module _ (panelCounts : Bool) (column : Column) (bolts : Bolts) (area : BoltArea) (face : Face) where
+  field-small : length (face .levers) ≡ 8 → fieldOf (fieldCheck column bolts area face) ≤ firstWordCount
   unfolding fieldCheck fieldChecks fixedChecks allWithin
   field-small eight =
       let levers = leverChecks (face .rows) 0 (face .levers) in
-      rw (one-after-another AllInRange Outside (fixedChecks column bolts face) levers)
+      rw (one-after-another AllInRange Outside (fixedChecks column bolts area face) levers)
       (by-number (λ (f : FieldCheck). fieldOf f ≤ firstWordCount) 1 firstWordCount _ Outside _ refl
       (by-number (λ (f : FieldCheck). fieldOf f ≤ firstWordCount) 1 firstWordCount AllInRange Outside levers
       (levers-within (face .rows) 0 (face .levers) (omega arith)) (omega arith) (λ number low high. high))
       (λ number low high. high))
 
-  face-small : FaceSmall (workedFace panelCounts column (boltStrengths bolts) face)
+  face-small : FaceSmall (workedFace panelCounts column (boltOf bolts area) face)
   unfolding workedFace refusalsAfter10 allWithin
   face-small =
       by-number FaceSmall 11 15 _ refusedAfter10 _ refl (record { number = omega arith; field = omega arith })
       (λ number low high. record { number = high; field = omega arith })
 
-  connection-small : length (face .levers) ≡ 8 → FaceSmall (workedConnection panelCounts column bolts face)
+  connection-small : length (face .levers) ≡ 8 → FaceSmall (workedConnection panelCounts column bolts area face)
   unfolding workedConnection
-  connection-small eight = go (fieldCheck column bolts face) (field-small eight)
+  connection-small eight = go (fieldCheck column bolts area face) (field-small eight)
     where
       go : (found : FieldCheck) → fieldOf found ≤ firstWordCount
-          → FaceSmall (workedBy found (workedFace panelCounts column (boltStrengths bolts) face))
+          → FaceSmall (workedBy found (workedFace panelCounts column (boltOf bolts area) face))
       go AllInRange small = face-small
       go (Outside field) small = record { number = omega arith; field = small }
 
@@ -188,37 +192,38 @@ if-small face outcome next few small after = go (eqb (outcome .number) 0)
     go true = after (outcome .result)
     go false = record { number = small .number; field = small .field; face = few }
 
-work-small : (joint : Joint) → length (joint .face .levers) ≡ 8 → length (joint .other .levers) ≡ 8 → Small (worked joint .refusal)
-unfolding worked workedFaces firstFace
-work-small joint eight eight′ = go (twoFaced (joint .face .rows))
+work-small : (area : BoltArea) (joint : Joint) → length (joint .face .levers) ≡ 8 → length (joint .other .levers) ≡ 8 → Small (workedWith area joint .refusal)
+unfolding workedWith workedFaces firstFace
+work-small area joint eight eight′ = go (twoFaced (joint .face .rows))
   where
     first : Face
     first = firstFace (joint .face)
 
     go : (t : Bool)
-        → Small (cond t (workedFaces (joint .column) (joint .bolts) first (joint .other))
-        (ofOneFace (workedConnection true (joint .column) (joint .bolts) first)) .refusal)
+        → Small (cond t (workedFaces (joint .column) (joint .bolts) area first (joint .other))
+        (ofOneFace (workedConnection true (joint .column) (joint .bolts) area first)) .refusal)
     go true =
-        if-small 1 (workedConnection false (joint .column) (joint .bolts) first)
-        (workedSecond (joint .column) (joint .bolts) first (joint .other)) (omega arith)
-        (connection-small false (joint .column) (joint .bolts) first eight)
-        (λ result. if-small 2 (workedConnection false (joint .column) (joint .bolts) (joint .other))
+        if-small 1 (workedConnection false (joint .column) (joint .bolts) area first)
+        (workedSecond (joint .column) (joint .bolts) area first (joint .other)) (omega arith)
+        (connection-small false (joint .column) (joint .bolts) area first eight)
+        (λ result. if-small 2 (workedConnection false (joint .column) (joint .bolts) area (joint .other))
         (bothTaken (joint .column) first (joint .other) result) (omega arith)
-        (connection-small false (joint .column) (joint .bolts) (joint .other) eight′)
+        (connection-small false (joint .column) (joint .bolts) area (joint .other) eight′)
         (λ other. record { number = omega arith; field = omega arith; face = omega arith }))
     go false =
-        let small = connection-small true (joint .column) (joint .bolts) first eight in
+        let small = connection-small true (joint .column) (joint .bolts) area first eight in
         record { number = small .number; field = small .field; face = omega arith }
 
 eight-words : (from : ℕ) (fields : List ℕ) → from + 8 ≤ length fields → length (wordsFrom from 8 fields) ≡ 8
 eight-words from fields room = length-take-le 8 (drop from fields) (omega (arith, length-drop from fields))
 
-pub refusal-small : (fields : List ℕ) → jointWordCount ≤ length fields → {outcome : Outcome} → outcome ≡ worked (jointOfWords fields)
+pub refusal-small : (table : BoltTable) (fields : List ℕ) → jointWordCount ≤ length fields
+    → {outcome : Outcome} → outcome ≡ worked table (jointOfWords fields)
     → Small (outcome .refusal)
 unfolding jointOf
-refusal-small fields room is =
+refusal-small table fields room is =
     rw is
-    (work-small (jointOfWords fields) (eight-words fieldCount fields (omega (arith, room)))
+    (work-small _ (jointOfWords fields) (eight-words fieldCount fields (omega (arith, room)))
     (eight-words (firstWordCount + ownCount) fields (omega (arith, room))))
 
 -- field 1 is the first word
@@ -228,14 +233,19 @@ first-word fields =
     getD-set-other (take fieldCount fields) 26 0 _ 0 (λ same. absurd (omega arith)) ∙ getD-take fieldCount fields 0 0 (omega arith)
 
 -- what is answered and left, by what the joint comes to
-module _ (fields words : List ℕ) (room : jointWordCount ≤ length fields) (places : outcomeWordCount ≤ length words) {outcome : Outcome}
-    (is : outcome ≡ worked (jointOfWords fields)) where
-  enough : (leb jointWordCount (length fields) && leb outcomeWordCount (length words)) ≡ true
-  enough = simp (le-leb jointWordCount (length fields) room, le-leb outcomeWordCount (length words) places)
+module _ (table fields words : List ℕ) (room : EnoughWords table fields words) {outcome : Outcome}
+    (is : outcome ≡ worked (tableOfWords table) (jointOfWords fields)) where
+  enough : (leb tableWordCount (length table) && (leb jointWordCount (length fields) && leb outcomeWordCount (length words))) ≡ true
+  enough =
+      simp (
+        le-leb tableWordCount (length table) (room .of-table),
+        le-leb jointWordCount (length fields) (room .of-joint),
+        le-leb outcomeWordCount (length words) (room .of-outcome),
+      )
 
   pub work-refused : (outcome .refusal .number ≡ 0 → ⊥) → {answer : ℕ}
       → answer ≡ answerNumber (outcome .refusal .number) (outcome .refusal .field) (outcome .refusal .face)
-      → WorkedInto fields words words answer
+      → WorkedInto table fields words words answer
   work-refused some {answer} e =
       record {
         equals = turned-down _ _ _ _ _ enough (λ none. some (ap (λ (o : Outcome). o .refusal .number) is ∙ none))
@@ -244,7 +254,8 @@ module _ (fields words : List ℕ) (room : jointWordCount ≤ length fields) (pl
       }
 
   pub work-put : outcome .refusal .number ≡ 0 → {exit : List ℕ} → exit ≡ atFront (outcomeWords outcome) words
-      → Demand3OfWords (jointOfWords fields) (atFront (outcomeWords outcome) words) → WorkedInto fields words exit 0
+      → Demand3OfWords (tableOfWords table) (jointOfWords fields) (atFront (outcomeWords outcome) words)
+      → WorkedInto table fields words exit 0
   work-put none front demand =
       record {
         equals = taken _ _ _ _ _ enough (sym (ap (λ (o : Outcome). o .refusal .number) is) ∙ none)
@@ -287,10 +298,11 @@ flag-back true = refl
 flag-back false = refl
 
 -- demand 3 of a face is demand 3 of its words, with any after them
-of-words : (panelCounts : Bool) (joint : Joint) (face : Face) (result : FaceResult) (rest : List ℕ) → length (result .forces) ≡ 8
-    → Demand3For panelCounts (joint .column) (joint .bolts) face result
-    → Demand3OfFace panelCounts joint face (resultWords result ++ rest)
-of-words panelCounts joint face result rest eight demand =
+of-words : (panelCounts : Bool) (table : BoltTable) (joint : Joint) (face : Face) (result : FaceResult) (rest : List ℕ)
+    → length (result .forces) ≡ 8
+    → Demand3For panelCounts (joint .column) (joint .bolts) (areaOf table (joint .bolts .diameter)) face result
+    → Demand3OfFace panelCounts table joint face (resultWords result ++ rest)
+of-words panelCounts table joint face result rest eight demand =
     rw (forces-first result rest eight, bending-word result rest eight, flag-back (result .verdicts .bending)) demand
 
 module _ (words : List ℕ) (outcome : Outcome) where
@@ -316,19 +328,20 @@ module _ (words : List ℕ) (outcome : Outcome) where
       (rw (length-append (outcome .result .forces)) (omega (arith, eight)))
 
 -- demand 3 of the words at exit
-pub demand-words : (words : List ℕ) (joint : Joint) (outcome : Outcome) → length (outcome .result .forces) ≡ 8
-    → length (outcome .other .forces) ≡ 8 → Demand3Of joint outcome → Demand3OfWords joint (atFront (outcomeWords outcome) words)
-demand-words words joint outcome eight eight′ demand =
+pub demand-words : (words : List ℕ) (table : BoltTable) (joint : Joint) (outcome : Outcome) → length (outcome .result .forces) ≡ 8
+    → length (outcome .other .forces) ≡ 8 → Demand3Of table joint outcome
+    → Demand3OfWords table joint (atFront (outcomeWords outcome) words)
+demand-words words table joint outcome eight eight′ demand =
     let first = firstFace (joint .face) in
     let rest = resultWords (outcome .other) ++ after-second words outcome in
     record {
       one-face = λ alone.
-          rw (first-words words outcome) (of-words true joint first (outcome .result) rest eight (demand .one-face alone));
+          rw (first-words words outcome) (of-words true table joint first (outcome .result) rest eight (demand .one-face alone));
       first-of-two = λ two.
-          rw (first-words words outcome) (of-words false joint first (outcome .result) rest eight (demand .two-faces two .of-first));
+          rw (first-words words outcome) (of-words false table joint first (outcome .result) rest eight (demand .two-faces two .of-first));
       second-of-two = λ two.
           rw (second-words words outcome eight)
-          (of-words false joint (joint .other) (outcome .other) (after-second words outcome) eight′ (demand .two-faces two .of-second));
+          (of-words false table joint (joint .other) (outcome .other) (after-second words outcome) eight′ (demand .two-faces two .of-second));
     }
 
 -- the words of a joint with one face

@@ -1,11 +1,14 @@
 -- Each exported call: which slices are long enough, which refusal is answered, and what is put where. Assumes nothing.
-use Prim.Native.Nat.{ℕ}
+use Prim.Native.Nat.{ℕ, _≤_}
 use mathlib.Core.List.{List}
 use mathlib.Core.Path.{_≡_}
 use mathlib.Core.Bool.{Bool, true, false, cond, _&&_}
 use lib.Dec.{leb, eqb}
 use lib.ListN.{length, getD, take, drop}
 use Rattle.buffers.specs.Put.{atFront}
+use Rattle.bolttable.specs.Area.{areaOf}
+use Rattle.bolttable.specs.Loading.{loaded, builtIn}
+use Rattle.bolttable.specs.declared.BoltTable.{BoltTable}
 use Rattle.joint.specs.Faces.{twoFaced, firstFace}
 use Rattle.joint.specs.declared.Face.{Face}
 use Rattle.joint.specs.declared.Joint.{Joint}
@@ -15,12 +18,13 @@ use Rattle.jointfile.specs.Write.{Writing, writing}
 use Rattle.jointfile.specs.declared.FileKind.{FileKind}
 use Rattle.jointfile.specs.declared.FileKind.the-variants.{Old, New}
 use Rattle.jointfile.specs.declared.Reading.{Reading}
-use Rattle.strength.specs.Bolt.{boltStrengths}
+use Rattle.connection.specs.OneFace.{boltOf}
 use Rattle.connection.specs.Demand.{Demand3}
 use Rattle.work.specs.Work.{worked}
 use Rattle.printer.specs.Sheet.{sheetOf}
 use Rattle.printer.specs.Answers.{Printing, whole, noRoom, printing}
 use Rattle.words.specs.Words.{jointWordCount, jointOfWords, wordsOf}
+use Rattle.words.specs.Tables.{tableWordCount, tableOfWords, wordsOfTable}
 use Rattle.words.specs.Results.{faceWordCount, outcomeWordCount, outcomeWords}
 use Rattle.exports.specs.Answers.{Answered, answers, answered}
 
@@ -59,28 +63,46 @@ writingInto fields buffer size =
     let written = writing (jointOfWords fields) buffer in
     answered (leb jointWordCount (length fields)) (written .refusal) 0 0 (filePut written) (record { bytes = buffer; size = size })
 
-abbrev pub workingInto : (fields words : List ℕ) → Answered (List ℕ)
-workingInto fields words =
-    let outcome = worked (jointOfWords fields) in
+-- rule 13.6: the table built in
+abbrev pub buildingInto : (table : List ℕ) → Answered (List ℕ)
+buildingInto table = answered (leb tableWordCount (length table)) 0 0 0 (atFront (wordsOfTable builtIn) table) table
+
+-- rules 3.7 and 13.6: the table that is in force after loading
+abbrev pub loadingInto : (table inForce : List ℕ) → Answered (List ℕ)
+loadingInto table inForce =
+    let loading = loaded (tableOfWords inForce) (tableOfWords table) in
+    answered (leb tableWordCount (length table) && leb tableWordCount (length inForce))
+    (loading .refusal) 0 0 (atFront (wordsOfTable (loading .table)) inForce) inForce
+
+abbrev pub workingInto : (table fields words : List ℕ) → Answered (List ℕ)
+workingInto table fields words =
+    let outcome = worked (tableOfWords table) (jointOfWords fields) in
     let refusal = outcome .refusal in
-    answered (leb jointWordCount (length fields) && leb outcomeWordCount (length words))
+    answered (leb tableWordCount (length table) && (leb jointWordCount (length fields) && leb outcomeWordCount (length words)))
     (refusal .number) (refusal .field) (refusal .face) (atFront (outcomeWords outcome) words) words
 
 -- Demand 3 of the words of a face: the first eight are its places for forces, and the fourteenth is its verdict on bending.
-abbrev pub Demand3OfFace : (panelCounts : Bool) → Joint → Face → (words : List ℕ) → Type 0
-Demand3OfFace panelCounts joint face words =
-    Demand3 panelCounts (joint .column) (boltStrengths (joint .bolts)) face (take 8 words) (eqb (getD words 13 0) 1)
+abbrev pub Demand3OfFace : (panelCounts : Bool) → BoltTable → Joint → Face → (words : List ℕ) → Type 0
+Demand3OfFace panelCounts table joint face words =
+    let bolts = joint .bolts in
+    Demand3 panelCounts (joint .column) (boltOf bolts (areaOf table (bolts .diameter))) face (take 8 words) (eqb (getD words 13 0) 1)
 
 -- Demand 3 of the words at exit: of one face, or of two, the second's after the first's.
-pub record Demand3OfWords (joint : Joint) (words : List ℕ) : Type 0 where
-  pub one-face : twoFaced (joint .face .rows) ≡ false → Demand3OfFace true joint (firstFace (joint .face)) words
-  pub first-of-two : twoFaced (joint .face .rows) ≡ true → Demand3OfFace false joint (firstFace (joint .face)) words
-  pub second-of-two : twoFaced (joint .face .rows) ≡ true → Demand3OfFace false joint (joint .other) (drop faceWordCount words)
+pub record Demand3OfWords (table : BoltTable) (joint : Joint) (words : List ℕ) : Type 0 where
+  pub one-face : twoFaced (joint .face .rows) ≡ false → Demand3OfFace true table joint (firstFace (joint .face)) words
+  pub first-of-two : twoFaced (joint .face .rows) ≡ true → Demand3OfFace false table joint (firstFace (joint .face)) words
+  pub second-of-two : twoFaced (joint .face .rows) ≡ true → Demand3OfFace false table joint (joint .other) (drop faceWordCount words)
+
+-- A table's words, a joint's, and places for what it comes to: each enough.
+pub record EnoughWords (table fields words : List ℕ) : Type 0 where
+  pub of-table : tableWordCount ≤ length table
+  pub of-joint : jointWordCount ≤ length fields
+  pub of-outcome : outcomeWordCount ≤ length words
 
 -- What working a joint's words answers and leaves, with demand 3 where it isn't refused.
-pub record WorkedInto (fields entry exit : List ℕ) (answer : ℕ) : Type 0 where
-  pub equals : answers answer exit ≡ workingInto fields entry
-  pub demand : answer ≡ 0 → Demand3OfWords (jointOfWords fields) exit
+pub record WorkedInto (table fields entry exit : List ℕ) (answer : ℕ) : Type 0 where
+  pub equals : answers answer exit ≡ workingInto table fields entry
+  pub demand : answer ≡ 0 → Demand3OfWords (tableOfWords table) (jointOfWords fields) exit
 
 -- rule 13.1: 101 says that there is no room for all lines
 abbrev pub sheetAnswer : (size : ℕ) → Printing → Answered BufferFront

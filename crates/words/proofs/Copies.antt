@@ -1,11 +1,11 @@
 -- Numbers copied into a slice one by one, at any width: what holds where the loop begins a turn, that a turn carries it on, and what it
 -- comes to. Then what copies from the first place on come to. It rests on the laws of `sets`. Assumes nothing.
-use Prim.Native.Nat.{ℕ, _+_, _≤_, _<_}
+use Prim.Native.Nat.{ℕ, _+_, _-_, _≤_, _<_}
 use mathlib.Core.Path.{_≡_, refl, sym, ap, _∙_}
 use mathlib.Core.List.{List, [], _∷_, _++_, append-nil}
 use native.Mathlib.Omega.{arith}
 use native.Mathlib.Numerals.{add-one}
-use lib.ListN.{length, getD, set, take, drop, length-append, drop-of-length-le}
+use lib.ListN.{length, getD, set, take, drop, length-append, length-drop, drop-of-length-le}
 use lib.Seq.{sets, length-sets, length-take-le, take-suc, take-all}
 use Rattle.buffers.specs.Put.{atFront}
 use Rattle.buffers.proofs.Puts.{sets-append, sets-front}
@@ -39,6 +39,13 @@ pub copied-over : (slice numbers : List ℕ) → length numbers ≡ length slice
 copied-over slice numbers all =
     let none : drop (length numbers) slice ≡ [] = drop-of-length-le slice {i = length numbers} (omega arith) in
     sets-front numbers slice (omega arith) ∙ rw none (append-nil numbers)
+
+-- so many numbers from a place on, as a part of a slice is lent, over an array that has so many
+pub part-over : (slice words : List ℕ) (from count : ℕ) → from + count ≤ length words → length slice ≡ count
+    → sets slice 0 (take (from + count - from) (drop from words)) ≡ take count (drop from words)
+part-over slice words from count room all =
+    let size : from + count - from ≡ count = omega arith in
+    rw size (copied-over slice _ (length-take-le count (drop from words) (omega (arith, length-drop from words)) ∙ sym all))
 
 -- numbers that follow others from the first place on
 pub copied-after : (slice first others : List ℕ) {at : ℕ} → length first ≡ at → at + length others ≤ length slice
