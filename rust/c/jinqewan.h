@@ -2,13 +2,14 @@
  *
  * A slice is a pointer with its count of elements. A joint is 66 words: its fields in order (docs/rules.md, 2.1) with eight levers, spare
  * ones 0, then the second face's fields 1, 2, 6, 7 and 14 to 29 with its eight levers. These last 28 words are looked at only where field 1
- * is 17 to 24, and jinqewan_read puts 0 there for a joint with one face. The axial force is its two's complement. Slices that a call reads
- * and slices that it writes don't overlap.
+ * is 17 to 24, and jinqewan_read puts 0 there for a joint with one face. The axial force is its two's complement. A bolt table is 25 words:
+ * its count of sizes, twelve diameters in millimetres and twelve areas in tenths of a square millimetre, of which only the counted ones
+ * are looked at. Slices that a call reads and slices that it writes don't overlap.
  *
  * Each call but jinqewan_rest answers 0 where it did what it is for, and else one number that tells why not: the refusal's number
  * (JINQEWAN_NUMBER), for refusal 10 the field (JINQEWAN_FIELD) and, where jinqewan_work refuses a joint with two faces, the face
- * (JINQEWAN_FACE); or JINQEWAN_SHORT where a slice can't hold a joint, a result or eight forces; or, of the sheet alone,
- * JINQEWAN_NO_ROOM. Whatever is answered but 0, every slice and place that was lent is as it was. */
+ * (JINQEWAN_FACE); or JINQEWAN_SHORT where a slice can't hold a joint, a bolt table, a result or eight forces; or, of the sheet
+ * alone, JINQEWAN_NO_ROOM. Whatever is answered but 0, every slice and place that was lent is as it was. */
 #ifndef JINQEWAN_H
 #define JINQEWAN_H
 
@@ -22,6 +23,8 @@ extern "C" {
 enum {
     JINQEWAN_JOINT_WORDS = 66,
     JINQEWAN_SECOND_FACE_FIELDS = 38,   /* where the second face's words begin in a joint */
+    JINQEWAN_TABLE_WORDS = 25,
+    JINQEWAN_TABLE_SIZES = 12,          /* most sizes of a bolt table; areas begin that many places after the diameters */
     JINQEWAN_FORCES = 8,
     JINQEWAN_RESULT_WORDS = 35,
     JINQEWAN_LONGEST_FILE = 322,
@@ -72,13 +75,24 @@ size_t jinqewan_rest(const uint8_t *bytes, size_t bytes_length, uint32_t kind);
 /* The joint's file, of the new kind, into `buffer`, and its length into `length`. */
 uint32_t jinqewan_write(const uint32_t *fields, size_t fields_length, uint8_t *buffer, size_t buffer_length, size_t *length);
 
-/* The joint worked, into `result`, which has 35 places. */
-uint32_t jinqewan_work(const uint32_t *fields, size_t fields_length, uint64_t *result, size_t result_length);
+/* The five sizes built in, as a bolt table, into `table`, which has 25 places. */
+uint32_t jinqewan_built_in(uint32_t *table, size_t table_length);
 
-/* The sheet of joint files of the new kind end to end, into `output`, and its length into `length`. The sheet's refusals are its lines,
- * `R 4` too: they are printed, and the answer is 0; or JINQEWAN_NO_ROOM where `output` can't hold all lines. An output of
- * JINQEWAN_LONGEST_SHEET bytes always can; in a shorter one the lines are measured before they are printed, which takes about as long
- * again. */
+/* Puts a bolt table in force: its 25 words go to the front of `in_force`, those past the count too. One that isn't taken leaves the table
+ * before in force. Refused are, each tried over all sizes before the next: by 16 a count that isn't 1 to 12, a diameter that isn't 6 to 64,
+ * an area that isn't 1 to 40000; by 17 diameters of which one isn't above the one before it; by 18 an area above 785 times the diameter's
+ * square divided by 100. */
+uint32_t jinqewan_load(const uint32_t *table, size_t table_length, uint32_t *in_force, size_t in_force_length);
+
+/* The joint worked by a bolt table, into `result`, which has 35 places. To this call a table that jinqewan_load would refuse has no sizes:
+ * field 4 is then refused by 10, whatever it is. */
+uint32_t jinqewan_work(const uint32_t *table, size_t table_length, const uint32_t *fields, size_t fields_length, uint64_t *result,
+    size_t result_length);
+
+/* The sheet of joint files of the new kind end to end, by the bolts built in, into `output`, and its length into `length`. The sheet's
+ * refusals are its lines, `R 4` too: they are printed, and the answer is 0; or JINQEWAN_NO_ROOM where `output` can't hold all lines. An
+ * output of JINQEWAN_LONGEST_SHEET bytes always can; in a shorter one the lines are measured before they are printed, which takes about as
+ * long again. */
 uint32_t jinqewan_sheet(const uint8_t *input, size_t input_length, uint8_t *output, size_t output_length, size_t *length);
 
 #ifdef __cplusplus

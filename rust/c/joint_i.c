@@ -13,9 +13,9 @@ static void print_face(const uint64_t *face)
 }
 
 /* Answers 0, or 1 where the joint is refused. */
-static int work(const uint32_t *joint, uint64_t *result)
+static int work(const uint32_t *table, const uint32_t *joint, uint64_t *result)
 {
-    uint32_t answer = jinqewan_work(joint, JINQEWAN_JOINT_WORDS, result, JINQEWAN_RESULT_WORDS);
+    uint32_t answer = jinqewan_work(table, JINQEWAN_TABLE_WORDS, joint, JINQEWAN_JOINT_WORDS, result, JINQEWAN_RESULT_WORDS);
     if (answer != 0) {
         printf("refused by %" PRIu32 ", field %" PRIu32 ", face %" PRIu32 "\n", JINQEWAN_NUMBER(answer),
             JINQEWAN_FIELD(answer), JINQEWAN_FACE(answer));
@@ -34,12 +34,13 @@ int main(void)
         900, 0, 600, 80, 60, 2000, 1, 0, 57000, 50000, 15000, 2400, 0, 0, 0, 0, 0, 0, 0,
         1, 0, 275, 275, 3071, 1657, 118, 67, 2000, 200,
         900, 0, 600, 80, 60, 2000, 1, 0, 57000, 50000, 2400};
+    uint32_t built_in[JINQEWAN_TABLE_WORDS];
     uint64_t result[JINQEWAN_RESULT_WORDS];
-    if (work(alone, result) != 0) {
+    if (jinqewan_built_in(built_in, JINQEWAN_TABLE_WORDS) != 0 || work(built_in, alone, result) != 0) {
         return 1;
     }
     print_face(result);
-    if (work(both, result) != 0) {
+    if (work(built_in, both, result) != 0) {
         return 1;
     }
     printf("on both faces\n");

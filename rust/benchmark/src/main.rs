@@ -4,17 +4,29 @@
 mod rounds;
 mod words;
 
-use proved::{longest_sheet, FORCES, JOINT_WORDS, NEW_KIND, RESULT_WORDS};
-use reference::{FileKind, Joint, GROUPS, LONGEST_FILE, LONGEST_INPUT};
+use proved::{longest_sheet, FORCES, JOINT_WORDS, NEW_KIND, RESULT_WORDS, TABLE_WORDS};
+use reference::{BoltTable, FileKind, Joint, BUILT_IN, GROUPS, LONGEST_FILE, LONGEST_INPUT, SIZES};
 use rounds::measure;
-use sample::{file_of, worked_joint, worked_two_faced_joint, Random};
+use sample::{file_of, good_bolt_table, worked_joint, worked_two_faced_joint, Random};
 use std::hint::black_box;
+use std::iter::repeat_with;
 
 const SEED: u64 = 7;
 /// Of joints with two faces, so that those with one stay the same.
 const TWO_FACED_SEED: u64 = 8;
+/// Of bolt tables and of joints worked by one of twelve sizes, so that the others stay the same.
+const OWN_TABLE_SEED: u64 = 9;
 /// Different inputs of each line.
 const INPUTS: usize = 512;
+
+/// Twelve sizes of coarse thread.
+const TWELVE_SIZES: BoltTable = BoltTable {
+    count: 12,
+    diameters: [10, 12, 14, 16, 18, 20, 22, 24, 27, 30, 33, 36],
+    areas: [
+        580, 843, 1150, 1570, 1920, 2450, 3030, 3530, 4590, 5610, 6940, 8170,
+    ],
+};
 
 fn main() {
     let mut random = Random::new(SEED);
@@ -27,11 +39,12 @@ fn main() {
     line("write, 1 to 8 rows", time_write(&mixed_joints(&mut random)));
     line("allocate, 8 rows", time_allocate(&mut random));
     for (call, rows) in [("work, 1 row", 1), ("work, 3 rows", 3), ("work, 8 rows", 8)] {
-        line(call, time_work(&alike_joints(&mut random, rows)));
+        line(call, time_work(&BUILT_IN, &alike_joints(&mut random, rows)));
     }
     let input = full_input(&mut random);
     sheet_line(&input, time_sheet(&input));
     two_faced_lines(&mut Random::new(TWO_FACED_SEED));
+    own_table_lines(&mut Random::new(OWN_TABLE_SEED));
 }
 
 fn two_faced_lines(random: &mut Random) {
@@ -44,10 +57,35 @@ fn two_faced_lines(random: &mut Random) {
         ("work, two faces of 8 rows", 8),
     ] {
         let joints: Vec<Joint> = (0..INPUTS)
-            .map(|_| worked_two_faced_joint(random, [rows, rows]))
+            .map(|_| worked_two_faced_joint(random, &BUILT_IN, [rows, rows]))
             .collect();
-        line(call, time_work(&joints));
+        line(call, time_work(&BUILT_IN, &joints));
     }
+}
+
+fn own_table_lines(random: &mut Random) {
+    line("load, 12 sizes", time_load(random));
+    for (call, rows) in [("work, 1 row, 12 sizes", 1), ("work, 3 rows, 12 sizes", 3)] {
+        let joints = joints_of_each_size(|| worked_joint(random, &TWELVE_SIZES, rows));
+        line(call, time_work(&TWELVE_SIZES, &joints));
+    }
+    let joints = joints_of_each_size(|| worked_two_faced_joint(random, &TWELVE_SIZES, [3, 3]));
+    line(
+        "work, two faces of 3 rows, 12 sizes",
+        time_work(&TWELVE_SIZES, &joints),
+    );
+}
+
+/// Joints with each of the twelve sizes in turn.
+fn joints_of_each_size(mut draw: impl FnMut() -> Joint) -> Vec<Joint> {
+    let mut drawn_with = |diameter: u32| {
+        repeat_with(&mut draw)
+            .find(|joint| joint.bolts.diameter == diameter)
+            .expect("every size is drawn at last")
+    };
+    (0..INPUTS)
+        .map(|input| drawn_with(TWELVE_SIZES.diameters[input % SIZES]))
+        .collect()
 }
 
 /// Times are of a run over all inputs.
@@ -71,18 +109,20 @@ fn sheet_line(input: &[u8], times: [f64; 2]) {
 /// Joints of one to eight rows, as many of each.
 fn mixed_joints(random: &mut Random) -> Vec<Joint> {
     (0..INPUTS)
-        .map(|input| worked_joint(random, input as u32 % 8 + 1))
+        .map(|input| worked_joint(random, &BUILT_IN, input as u32 % 8 + 1))
         .collect()
 }
 
 fn alike_joints(random: &mut Random, rows: u32) -> Vec<Joint> {
-    (0..INPUTS).map(|_| worked_joint(random, rows)).collect()
+    (0..INPUTS)
+        .map(|_| worked_joint(random, &BUILT_IN, rows))
+        .collect()
 }
 
 /// Every pair of row counts, as many of each.
 fn mixed_two_faced_joints(random: &mut Random) -> Vec<Joint> {
     (0..INPUTS as u32)
-        .map(|input| worked_two_faced_joint(random, [input % 8 + 1, input / 8 % 8 + 1]))
+        .map(|input| worked_two_faced_joint(random, &BUILT_IN, [input % 8 + 1, input / 8 % 8 + 1]))
         .collect()
 }
 
@@ -194,26 +234,65 @@ fn time_allocate(random: &mut Random) -> [f64; 3] {
     ])
 }
 
-fn time_work(joints: &[Joint]) -> [f64; 3] {
+fn time_load(random: &mut Random) -> [f64; 3] {
+    let tables: Vec<BoltTable> = (0..INPUTS)
+        .map(|_| good_bolt_table(random, SIZES as u32))
+        .collect();
+    let table_words: Vec<[u32; TABLE_WORDS]> = tables.iter().map(BoltTable::to_words).collect();
+    let mut proved_in_force = [0; TABLE_WORDS];
+    let mut plain_in_force = [0; TABLE_WORDS];
+    let mut native_in_force = BUILT_IN;
+    measure([
+        &mut || {
+            for words in &table_words {
+                black_box(proved::load(black_box(words), &mut proved_in_force));
+                black_box(&proved_in_force);
+            }
+        },
+        &mut || {
+            for words in &table_words {
+                black_box(words::load(black_box(words), &mut plain_in_force));
+                black_box(&plain_in_force);
+            }
+        },
+        &mut || {
+            for table in &tables {
+                black_box(&reference::load(black_box(table), &mut native_in_force));
+                black_box(&native_in_force);
+            }
+        },
+    ])
+}
+
+fn time_work(table: &BoltTable, joints: &[Joint]) -> [f64; 3] {
+    let sizes = table.to_words();
     let joint_words: Vec<[u32; JOINT_WORDS]> = joints.iter().map(Joint::to_fields).collect();
     let mut proved_result = [0; RESULT_WORDS];
     let mut plain_result = [0; RESULT_WORDS];
     measure([
         &mut || {
             for fields in &joint_words {
-                black_box(proved::work(black_box(fields), &mut proved_result));
+                black_box(proved::work(
+                    black_box(&sizes),
+                    black_box(fields),
+                    &mut proved_result,
+                ));
                 black_box(&proved_result);
             }
         },
         &mut || {
             for fields in &joint_words {
-                black_box(words::work(black_box(fields), &mut plain_result));
+                black_box(words::work(
+                    black_box(&sizes),
+                    black_box(fields),
+                    &mut plain_result,
+                ));
                 black_box(&plain_result);
             }
         },
         &mut || {
             for joint in joints {
-                black_box(&reference::work(black_box(joint)));
+                black_box(&reference::work(black_box(table), black_box(joint)));
             }
         },
     ])
@@ -224,7 +303,7 @@ fn full_input(random: &mut Random) -> Vec<u8> {
     let mut input = Vec::new();
     while input.len() < LONGEST_INPUT {
         let rows = random.between(1, 8);
-        input.extend(file_of(&worked_joint(random, rows)));
+        input.extend(file_of(&worked_joint(random, &BUILT_IN, rows)));
     }
     input.truncate(LONGEST_INPUT);
     input

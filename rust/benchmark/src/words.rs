@@ -1,7 +1,7 @@
 //! The plain calls over the same words and bytes as the proved ones. None is inlined, as the proved ones can't be.
 
-use proved::{FACE_WORDS, FORCES, JOINT_WORDS, PANEL, RESULT_WORDS};
-use reference::{FaceResult, FileKind, Joint, JointResult};
+use proved::{FACE_WORDS, FORCES, JOINT_WORDS, PANEL, RESULT_WORDS, TABLE_WORDS};
+use reference::{BoltTable, FaceResult, FileKind, Joint, JointResult};
 
 #[inline(never)]
 pub fn read(file: &[u8], kind: FileKind, words: &mut [u32; JOINT_WORDS], next: &mut usize) -> u32 {
@@ -38,8 +38,23 @@ pub fn allocate(count: usize, limits: &[u64], forces: &mut [u64; FORCES]) -> u32
 }
 
 #[inline(never)]
-pub fn work(words: &[u32; JOINT_WORDS], result: &mut [u64; RESULT_WORDS]) -> u32 {
-    match reference::work(&Joint::from_fields(words)) {
+pub fn load(words: &[u32; TABLE_WORDS], in_force: &mut [u32; TABLE_WORDS]) -> u32 {
+    match BoltTable::from_words(words).check() {
+        Ok(()) => {
+            *in_force = *words;
+            0
+        }
+        Err(refusal) => refusal as u32,
+    }
+}
+
+#[inline(never)]
+pub fn work(
+    sizes: &[u32; TABLE_WORDS],
+    words: &[u32; JOINT_WORDS],
+    result: &mut [u64; RESULT_WORDS],
+) -> u32 {
+    match reference::work(&BoltTable::from_words(sizes), &Joint::from_fields(words)) {
         Ok(worked) => {
             put_result(&worked, result);
             0

@@ -2,8 +2,9 @@
 
 use crate::tally::Tally;
 use reference::{
-    panel_shear, Check, Column, Face, FaceResult, FileKind, Joint, JointResult, OtherResult,
-    ReadRefusal, Trouble, Verdicts, WorkRefusal, WriteRefusal, LONGEST_INPUT, ROWS, SECOND_FACE,
+    greatest_area, panel_shear, BoltTable, Check, Column, Face, FaceResult, FileKind, Joint,
+    JointResult, LoadRefusal, OtherResult, ReadRefusal, Trouble, Verdicts, WorkRefusal,
+    WriteRefusal, LONGEST_INPUT, ROWS, SECOND_FACE, SIZES,
 };
 
 // ---- Work
@@ -160,6 +161,96 @@ fn count_panel(joint: &Joint, first: &FaceResult, other: &OtherResult, tally: &m
     }
     if panel < first.governing_force.min(other.face.governing_force) {
         tally.count("work, two faces: panel shear below both governing forces");
+    }
+}
+
+/// Which table the joint was worked by, other than the one built in.
+pub fn count_own_table(
+    table: &BoltTable,
+    joint: &Joint,
+    worked: &Result<JointResult, WorkRefusal>,
+    tally: &mut Tally,
+) {
+    match worked {
+        Ok(result) if result.other.is_some() => tally.count("work, own table, two faces: worked"),
+        Ok(_) => tally.count("work, own table: worked"),
+        Err(refusal) if refusal.trouble == Trouble::Field(4) => {
+            count_unlisted(table, joint.bolts.diameter, tally);
+        }
+        Err(_) => {}
+    }
+}
+
+/// Why the table has no such size.
+fn count_unlisted(table: &BoltTable, diameter: u32, tally: &mut Tally) {
+    let (listed, spare) = table.diameters.split_at(SIZES.min(table.count as usize));
+    tally.count(match (table.check(), listed.contains(&diameter)) {
+        (Ok(()), _) if spare.contains(&diameter) => "work, own table: field 4 is past the count",
+        (Ok(()), _) => "work, own table: field 4 is none of its sizes",
+        (Err(_), false) => "work, own table: a refused one without field 4",
+        (Err(LoadRefusal::OutOfRange), true) => "work, own table: one refused by 16 has field 4",
+        (Err(LoadRefusal::NotRising), true) => "work, own table: one refused by 17 has field 4",
+        (Err(LoadRefusal::AreaTooGreat), true) => "work, own table: one refused by 18 has field 4",
+    });
+}
+
+// ---- Load
+
+pub fn count_loaded(table: &BoltTable, loaded: &Result<(), LoadRefusal>, tally: &mut Tally) {
+    let count = table.count as usize;
+    match loaded {
+        Ok(()) => {
+            tally.count("load: taken");
+            let spare = [&table.diameters[count..], &table.areas[count..]].concat();
+            if spare.iter().any(|&number| number != 0) {
+                tally.count("load: taken, with something past the count");
+            }
+        }
+        Err(LoadRefusal::OutOfRange) => count_out_of_range(table, tally),
+        Err(LoadRefusal::NotRising) => tally.count("load: refusal 17"),
+        Err(LoadRefusal::AreaTooGreat) => tally.count("load: refusal 18"),
+    }
+    if (1..=SIZES).contains(&count) {
+        count_order(
+            &table.diameters[..count],
+            &table.areas[..count],
+            loaded,
+            tally,
+        );
+    }
+}
+
+fn count_out_of_range(table: &BoltTable, tally: &mut Tally) {
+    let count = table.count as usize;
+    tally.count(if !(1..=SIZES).contains(&count) {
+        "load: refusal 16 by the count"
+    } else if table.diameters[..count]
+        .iter()
+        .any(|&diameter| !(6..=64).contains(&diameter))
+    {
+        "load: refusal 16 by a diameter"
+    } else {
+        "load: refusal 16 by an area"
+    });
+}
+
+/// Where a later refusal holds as well as the one that is told.
+fn count_order(
+    diameters: &[u32],
+    areas: &[u32],
+    loaded: &Result<(), LoadRefusal>,
+    tally: &mut Tally,
+) {
+    let falls = diameters.windows(2).any(|pair| pair[0] >= pair[1]);
+    let mut sizes = diameters.iter().zip(areas);
+    let is_too_great =
+        |(&diameter, &area): (&u32, &u32)| diameter <= 64 && area > greatest_area(diameter);
+    let too_great = sizes.any(is_too_great);
+    match loaded {
+        Err(LoadRefusal::OutOfRange) if falls => tally.count("load: 16 before 17"),
+        Err(LoadRefusal::OutOfRange) if too_great => tally.count("load: 16 before 18"),
+        Err(LoadRefusal::NotRising) if too_great => tally.count("load: 17 before 18"),
+        _ => {}
     }
 }
 

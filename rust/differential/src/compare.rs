@@ -1,13 +1,17 @@
 //! One input, both answers.
 
-use crate::cases::{count_read, count_sheet, count_worked, count_written};
+use crate::cases::{
+    count_loaded, count_own_table, count_read, count_sheet, count_worked, count_written,
+};
 use crate::tally::Tally;
 use proved::{
     longest_sheet, FACE_WORDS, FORCES, JOINT_WORDS, NEW_KIND, NO_ROOM, OLD_KIND, PANEL,
-    RESULT_WORDS, SHORT,
+    RESULT_WORDS, SHORT, TABLE_WORDS,
 };
-use reference::{FaceResult, FileKind, Joint, JointResult, LONGEST_FILE, LONGEST_INPUT};
-use sample::{any_joint, file_of, file_of_kind, Random, Table};
+use reference::{
+    BoltTable, FaceResult, FileKind, Joint, JointResult, BUILT_IN, LONGEST_FILE, LONGEST_INPUT,
+};
+use sample::{any_bolt_table, any_joint_with_own_table, file_of, file_of_kind, LimitTable, Random};
 use std::fmt::Debug;
 
 /// The input and both answers, for printing.
@@ -35,11 +39,17 @@ const MARK_PLACE: usize = usize::MAX;
 
 // ---- Work
 
-pub fn compare_work(joint: &Joint, tally: &mut Tally) -> Result<(), Difference> {
+pub fn compare_work(
+    table: &BoltTable,
+    joint: &Joint,
+    random: &mut Random,
+    tally: &mut Tally,
+) -> Result<(), Difference> {
+    let sizes = marked(random, table);
     let fields = joint.to_fields();
     let mut words = [MARK_64; RESULT_WORDS + 1];
-    let answer = proved::work(&fields, &mut words);
-    let worked = reference::work(joint);
+    let answer = proved::work(&sizes, &fields, &mut words);
+    let worked = reference::work(table, joint);
     let mut expected = [MARK_64; RESULT_WORDS + 1];
     let told = match &worked {
         Ok(result) => {
@@ -49,6 +59,9 @@ pub fn compare_work(joint: &Joint, tally: &mut Tally) -> Result<(), Difference> 
         Err(refusal) => (refusal.number(), refusal.field(), refusal.face),
     };
     count_worked(joint, &worked, tally);
+    if *table != BUILT_IN {
+        count_own_table(table, joint, &worked, tally);
+    }
     let parts = (
         proved::number(answer),
         proved::field(answer),
@@ -56,7 +69,7 @@ pub fn compare_work(joint: &Joint, tally: &mut Tally) -> Result<(), Difference> 
     );
     same(
         "work",
-        &fields,
+        &(sizes, fields),
         (answer >> 24, parts, words),
         (0, told, expected),
     )
@@ -86,6 +99,49 @@ fn face_words(result: &FaceResult) -> [u64; FACE_WORDS] {
     words[15] = u64::from(result.verdicts.flange_weld);
     words[16] = u64::from(result.verdicts.web_weld);
     words
+}
+
+// ---- Bolt tables
+
+/// Any table in force before, and slices that are mostly longer than a table.
+pub fn compare_load(random: &mut Random, tally: &mut Tally) -> Result<(), Difference> {
+    let table = any_bolt_table(random);
+    let before = any_bolt_table(random);
+    let handed = marked(random, &table);
+    let mut in_force = marked(random, &before);
+    let mut expected = in_force.clone();
+    let answer = proved::load(&handed, &mut in_force);
+    let mut table_in_force = before;
+    let loaded = reference::load(&table, &mut table_in_force);
+    let number = match loaded {
+        Ok(()) => 0,
+        Err(refusal) => refusal as u32,
+    };
+    expected[..TABLE_WORDS].copy_from_slice(&table_in_force.to_words());
+    count_loaded(&table, &loaded, tally);
+    same(
+        "load",
+        &(handed, before),
+        (answer, in_force),
+        (number, expected),
+    )
+}
+
+/// The table's words, with some marks after them.
+fn marked(random: &mut Random, table: &BoltTable) -> Vec<u32> {
+    let mut words = table.to_words().to_vec();
+    words.resize(TABLE_WORDS + random.below(3) as usize, MARK_32);
+    words
+}
+
+pub fn compare_built_in(random: &mut Random, tally: &mut Tally) -> Result<(), Difference> {
+    let size = TABLE_WORDS + random.below(3) as usize;
+    let mut words = vec![MARK_32; size];
+    let answer = proved::built_in(&mut words);
+    let mut expected = vec![MARK_32; size];
+    expected[..TABLE_WORDS].copy_from_slice(&BUILT_IN.to_words());
+    tally.count("built in: table");
+    same("built in", &size, (answer, words), (0, expected))
 }
 
 // ---- Write and Read
@@ -186,7 +242,7 @@ fn compare_read(bytes: &[u8], number: u32, tally: &mut Tally) -> Result<(), Diff
 // ---- Allocate
 
 pub fn compare_allocate(
-    table: &Table,
+    table: &LimitTable,
     random: &mut Random,
     tally: &mut Tally,
 ) -> Result<(), Difference> {
@@ -274,15 +330,17 @@ fn compare_sheet(bytes: &[u8], random: &mut Random, tally: &mut Tally) -> Result
 // ---- Slices that are too short
 
 pub fn compare_short(random: &mut Random, tally: &mut Tally) -> Result<(), Difference> {
-    let joint = any_joint(random);
+    let (table, joint) = any_joint_with_own_table(random);
     tally.count("short: allocate");
     short_allocate(random)?;
     tally.count("short: read");
     short_read(&joint, random)?;
     tally.count("short: write");
     short_write(&joint, random)?;
-    tally.count("short: work");
-    short_work(&joint, random)
+    tally.count("short: built in");
+    short_built_in(random)?;
+    short_load(&table, random, tally)?;
+    short_work(&table, &joint, random, tally)
 }
 
 fn short_allocate(random: &mut Random) -> Result<(), Difference> {
@@ -327,24 +385,83 @@ fn short_write(joint: &Joint, random: &mut Random) -> Result<(), Difference> {
     )
 }
 
-/// Too few fields, and too few places for the result.
-fn short_work(joint: &Joint, random: &mut Random) -> Result<(), Difference> {
-    let fields = joint.to_fields();
-    let few_fields = &fields[..random.below(JOINT_WORDS as u64) as usize];
-    let mut result = [MARK_64; RESULT_WORDS];
-    let answer = proved::work(few_fields, &mut result);
+fn short_built_in(random: &mut Random) -> Result<(), Difference> {
+    let mut table = vec![MARK_32; random.below(TABLE_WORDS as u64) as usize];
+    let untouched = table.clone();
+    let answer = proved::built_in(&mut table);
     same(
-        "short work",
-        &few_fields,
-        (answer, result),
-        (SHORT, [MARK_64; RESULT_WORDS]),
-    )?;
-    let places = random.below(RESULT_WORDS as u64) as usize;
-    let answer = proved::work(&fields, &mut result[..places]);
-    same(
-        "short work",
-        &(fields, places),
-        (answer, result),
-        (SHORT, [MARK_64; RESULT_WORDS]),
+        "short built in",
+        &table.len(),
+        (answer, &table),
+        (SHORT, &untouched),
     )
+}
+
+fn short_load(table: &BoltTable, random: &mut Random, tally: &mut Tally) -> Result<(), Difference> {
+    let words = table.to_words();
+    let mut few = || random.below(TABLE_WORDS as u64) as usize;
+    for (case, handed, places) in [
+        ("short: load, table", few(), TABLE_WORDS),
+        ("short: load, table in force", TABLE_WORDS, few()),
+        ("short: load, both", few(), few()),
+    ] {
+        let mut in_force = [MARK_32; TABLE_WORDS];
+        let answer = proved::load(&words[..handed], &mut in_force[..places]);
+        tally.count(case);
+        same(
+            case,
+            &(&words[..handed], places),
+            (answer, in_force),
+            (SHORT, [MARK_32; TABLE_WORDS]),
+        )?;
+    }
+    Ok(())
+}
+
+fn short_work(
+    table: &BoltTable,
+    joint: &Joint,
+    random: &mut Random,
+    tally: &mut Tally,
+) -> Result<(), Difference> {
+    let sizes = table.to_words();
+    let fields = joint.to_fields();
+    let mut few = |count: usize| random.below(count as u64) as usize;
+    for (case, words, numbers, places) in [
+        (
+            "short: work, table",
+            few(TABLE_WORDS),
+            JOINT_WORDS,
+            RESULT_WORDS,
+        ),
+        (
+            "short: work, fields",
+            TABLE_WORDS,
+            few(JOINT_WORDS),
+            RESULT_WORDS,
+        ),
+        (
+            "short: work, result",
+            TABLE_WORDS,
+            JOINT_WORDS,
+            few(RESULT_WORDS),
+        ),
+        (
+            "short: work, all",
+            few(TABLE_WORDS),
+            few(JOINT_WORDS),
+            few(RESULT_WORDS),
+        ),
+    ] {
+        let mut result = [MARK_64; RESULT_WORDS];
+        let answer = proved::work(&sizes[..words], &fields[..numbers], &mut result[..places]);
+        tally.count(case);
+        same(
+            case,
+            &(&sizes[..words], &fields[..numbers], places),
+            (answer, result),
+            (SHORT, [MARK_64; RESULT_WORDS]),
+        )?;
+    }
+    Ok(())
 }

@@ -1,4 +1,4 @@
-//! Compares the proved calls with the plain reading over random joints, limit tables and byte streams.
+//! Compares the proved calls with the plain reading over random joints, bolt tables, limit tables and byte streams.
 //! Usage: differential [SEED [JOINTS]]. The exit status is 1 at the first difference, whose input is printed in full, and where some
 //! refusal, check or verdict was never reached.
 
@@ -7,10 +7,11 @@ mod compare;
 mod tally;
 
 use compare::{
-    compare_allocate, compare_file, compare_short, compare_stream, compare_work, random_kind,
-    Difference,
+    compare_allocate, compare_built_in, compare_file, compare_load, compare_short, compare_stream,
+    compare_work, random_kind, Difference,
 };
-use sample::{any_joint, stream, table, Random};
+use reference::BUILT_IN;
+use sample::{any_joint, any_joint_with_own_table, limit_table, stream, Random};
 use std::process::ExitCode;
 use tally::Tally;
 
@@ -42,12 +43,17 @@ fn main() -> ExitCode {
 fn run(seed: u64, joints: u64, tally: &mut Tally) -> Result<(), Difference> {
     let mut random = Random::new(seed);
     for _ in 0..joints {
-        let joint = any_joint(&mut random);
-        compare_work(&joint, tally)?;
+        let joint = any_joint(&mut random, &BUILT_IN);
+        compare_work(&BUILT_IN, &joint, &mut random, tally)?;
         compare_file(&joint, &mut random, tally)?;
     }
     for _ in 0..joints {
-        compare_allocate(&table(&mut random), &mut random, tally)?;
+        let (table, joint) = any_joint_with_own_table(&mut random);
+        compare_work(&table, &joint, &mut random, tally)?;
+        compare_load(&mut random, tally)?;
+    }
+    for _ in 0..joints {
+        compare_allocate(&limit_table(&mut random), &mut random, tally)?;
     }
     for _ in 0..joints / 4 {
         let kind = random_kind(&mut random);
@@ -64,6 +70,7 @@ fn run(seed: u64, joints: u64, tally: &mut Tally) -> Result<(), Difference> {
         compare_stream(&bytes, told, &mut random, tally)?;
     }
     for _ in 0..joints / 100 {
+        compare_built_in(&mut random, tally)?;
         compare_short(&mut random, tally)?;
     }
     Ok(())

@@ -1,12 +1,17 @@
 //! The proved calls. A joint is 66 words of 32 bits: its fields in order (docs/rules.md, 2.1) with eight levers, 38 words, and the second
 //! face's fields 1, 2, 6, 7 and 14 to 29 with eight levers, which are looked at only where field 1 is 17 to 24. N is by its two's
-//! complement. Each call but `rest` answers 0 where it did what it is for, and else one number that tells why not (`number`, `field`,
-//! `face`); then every slice and place that was lent is as it was.
+//! complement. A bolt table is 25 words: its count, twelve diameters and twelve areas, of which only the counted ones are looked at. Each
+//! call but `rest` answers 0 where it did what it is for, and else one number that tells why not (`number`, `field`, `face`); then every
+//! slice and place that was lent is as it was.
 
 /// Words of a joint.
 pub const JOINT_WORDS: usize = 66;
 /// Where the second face's words begin in a joint.
 pub const SECOND_FACE_FIELDS: usize = 38;
+/// Words of a bolt table.
+pub const TABLE_WORDS: usize = 25;
+/// Most sizes of a bolt table.
+pub const TABLE_SIZES: usize = 12;
 /// Places of Allocate's answer.
 pub const FORCES: usize = 8;
 /// Words of a face's result: eight forces, sum, newton metres, cap, check (0 to 3 for F, B, K, S), governing force, and 1 or 0 for
@@ -70,7 +75,16 @@ mod c {
             buffer_length: usize,
             length: *mut usize,
         ) -> u32;
+        pub fn jinqewan_built_in(table: *mut u32, table_length: usize) -> u32;
+        pub fn jinqewan_load(
+            table: *const u32,
+            table_length: usize,
+            in_force: *mut u32,
+            in_force_length: usize,
+        ) -> u32;
         pub fn jinqewan_work(
+            table: *const u32,
+            table_length: usize,
             fields: *const u32,
             fields_length: usize,
             result: *mut u64,
@@ -129,9 +143,29 @@ pub fn write(fields: &[u32], buffer: &mut [u8], length: &mut usize) -> u32 {
     }
 }
 
-pub fn work(fields: &[u32], result: &mut [u64]) -> u32 {
+/// The five sizes built in, as a bolt table.
+pub fn built_in(table: &mut [u32]) -> u32 {
+    unsafe { c::jinqewan_built_in(table.as_mut_ptr(), table.len()) }
+}
+
+/// Puts a bolt table in force. One that isn't taken, by 16, 17 or 18, leaves the one before.
+pub fn load(table: &[u32], in_force: &mut [u32]) -> u32 {
+    unsafe {
+        c::jinqewan_load(
+            table.as_ptr(),
+            table.len(),
+            in_force.as_mut_ptr(),
+            in_force.len(),
+        )
+    }
+}
+
+/// By a bolt table. One that `load` would refuse has no sizes, so that field 4 is refused.
+pub fn work(table: &[u32], fields: &[u32], result: &mut [u64]) -> u32 {
     unsafe {
         c::jinqewan_work(
+            table.as_ptr(),
+            table.len(),
             fields.as_ptr(),
             fields.len(),
             result.as_mut_ptr(),
@@ -140,7 +174,7 @@ pub fn work(fields: &[u32], result: &mut [u64]) -> u32 {
     }
 }
 
-/// Of files of the new kind.
+/// Of files of the new kind, by the bolts built in.
 pub fn sheet(input: &[u8], output: &mut [u8], length: &mut usize) -> u32 {
     unsafe {
         c::jinqewan_sheet(

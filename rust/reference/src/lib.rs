@@ -1,7 +1,8 @@
-//! Document 01, and the rules for joints near the column end and for a beam on both faces, read in plain Rust. It was written from the
-//! papers, with the signatures of the proved calls and some of their bodies known.
+//! Document 01, and the rules for joints near the column end, for a beam on both faces and for bolt tables, read in plain Rust. It was
+//! written from the papers, with the signatures of the proved calls and some of their bodies known.
 //! Rows count from 0 here, from 1 in the rules.
 
+mod bolt_table;
 mod compression;
 mod file;
 mod joint;
@@ -14,6 +15,7 @@ mod tension;
 mod verdict;
 mod work;
 
+pub use bolt_table::{greatest_area, load, BoltTable, LoadRefusal, BUILT_IN, SIZES, TABLE_WORDS};
 pub use compression::panel_shear;
 pub use file::{read, rest, write, FileKind, ReadRefusal, WriteRefusal, LONGEST_FILE};
 pub use joint::{

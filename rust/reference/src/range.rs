@@ -13,9 +13,14 @@ const LEG: RangeInclusive<u32> = 30..=250;
 const LEVER: RangeInclusive<u32> = 1..=20000;
 
 /// The number, from 1, of the first field that is out of its range. Of a second face that is never a shared one: those were in range with
-/// the first.
-pub fn first_outside(column: &Column, bolts: &Bolts, face: &Face) -> Option<u32> {
-    let head = fields_hold(column, bolts, face);
+/// the first. `area` is that of the bolts' size, none where the bolt table has no such size.
+pub fn first_outside(
+    column: &Column,
+    bolts: &Bolts,
+    area: Option<u32>,
+    face: &Face,
+) -> Option<u32> {
+    let head = fields_hold(column, bolts, area, face);
     if let Some(place) = head.iter().position(|&holds| !holds) {
         return Some(place as u32 + 1);
     }
@@ -29,13 +34,13 @@ pub fn first_outside(column: &Column, bolts: &Bolts, face: &Face) -> Option<u32>
 }
 
 /// Whether each field before the levers is in its range.
-fn fields_hold(column: &Column, bolts: &Bolts, face: &Face) -> [bool; HEAD] {
+fn fields_hold(column: &Column, bolts: &Bolts, area: Option<u32>, face: &Face) -> [bool; HEAD] {
     let within = |range: RangeInclusive<u32>, value: u32| range.contains(&value);
     [
         within(COUNTS, face.rows),
         within(0..=1, face.extended),
         matches!(bolts.class, 46 | 88 | 109),
-        matches!(bolts.diameter, 12 | 16 | 20 | 24 | 30),
+        area.is_some(),
         is_grade(column.grade),
         is_grade(face.beam.grade),
         is_grade(face.plate.grade),

@@ -1,5 +1,6 @@
-//! The sheet: joint files of the new kind end to end in, a line for each face out.
+//! The sheet: joint files of the new kind end to end in, a line for each face out. Its bolts are those built in.
 
+use crate::bolt_table::BUILT_IN;
 use crate::file::{read, FileKind};
 use crate::joint::Joint;
 use crate::outcome::{FaceResult, JointResult, WorkRefusal};
@@ -24,7 +25,7 @@ pub fn sheet(input: &[u8], out: &mut Vec<u8>) {
                 return;
             }
             Ok((joint, after)) => {
-                joint_lines(number, &joint, &work(&joint), out);
+                joint_lines(number, &joint, &work(&BUILT_IN, &joint), out);
                 rest = after;
             }
         }

@@ -35,8 +35,9 @@ pub struct BoltStrengths {
 }
 
 impl BoltStrengths {
-    pub fn of(bolts: &Bolts) -> BoltStrengths {
-        let area = bolt_area(bolts.diameter);
+    /// `area` is that of one bolt, in tenths of a square millimetre.
+    pub fn of(bolts: &Bolts, area: u32) -> BoltStrengths {
+        let area = u64::from(area);
         let (tension, shear, bearing, ultimate) = bolt_class(bolts.class);
         BoltStrengths {
             diameter: u64::from(bolts.diameter),
@@ -81,17 +82,6 @@ pub fn weld_strength(beam: &Beam, plate: &Plate) -> u64 {
     }
 }
 
-/// In tenths of a square millimetre.
-fn bolt_area(diameter: u32) -> u64 {
-    match diameter {
-        12 => 843,
-        16 => 1570,
-        20 => 2450,
-        24 => 3530,
-        _ => 5610,
-    }
-}
-
 /// Tension, shear, bearing, ultimate.
 fn bolt_class(class: u32) -> (u64, u64, u64, u64) {
     match class {
@@ -123,10 +113,11 @@ mod tests {
 
     #[test]
     fn thickness_of_checked_joint_g() {
-        let bolt = BoltStrengths::of(&Bolts {
+        let bolts = Bolts {
             class: 88,
             diameter: 24,
-        });
+        };
+        let bolt = BoltStrengths::of(&bolts, 3530);
         let plate = Plate {
             grade: 275,
             thickness: 500,

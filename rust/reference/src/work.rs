@@ -1,5 +1,6 @@
 //! Work: one joint worked whole.
 
+use crate::bolt_table::BoltTable;
 use crate::compression::{governing, panel_passes, panel_shear, Faces};
 use crate::joint::{Bolts, Column, Face, Joint, ROWS};
 use crate::outcome::{FaceResult, JointResult, OtherResult, Trouble, WorkRefusal};
@@ -9,27 +10,29 @@ use crate::strength::{both_too_thick, BoltStrengths, SteelStrengths};
 use crate::tension::{group_limits, Distances};
 use crate::verdict::verdicts;
 
-pub fn work(joint: &Joint) -> Result<JointResult, WorkRefusal> {
+/// The joint worked by a bolt table, which is looked at once for both faces.
+pub fn work(table: &BoltTable, joint: &Joint) -> Result<JointResult, WorkRefusal> {
     let Joint {
         column,
         bolts,
         face,
         ..
     } = joint;
+    let area = table.area_of(bolts.diameter);
     if joint.is_two_faced() {
-        return work_two_faces(joint);
+        return work_two_faces(joint, area);
     }
-    match work_face(column, bolts, face, Faces::One) {
+    match work_face(column, bolts, area, face, Faces::One) {
         Ok(face) => Ok(JointResult { face, other: None }),
         Err(trouble) => Err(WorkRefusal { trouble, face: 0 }),
     }
 }
 
 /// All of the first face's troubles are told before the second's.
-fn work_two_faces(joint: &Joint) -> Result<JointResult, WorkRefusal> {
+fn work_two_faces(joint: &Joint, area: Option<u32>) -> Result<JointResult, WorkRefusal> {
     let column = &joint.column;
     let worked = |face: &Face, number: u32| {
-        work_face(column, &joint.bolts, face, Faces::Two).map_err(|trouble| WorkRefusal {
+        work_face(column, &joint.bolts, area, face, Faces::Two).map_err(|trouble| WorkRefusal {
             trouble,
             face: number,
         })
@@ -54,15 +57,18 @@ fn governing_total(result: &FaceResult, face: &Face) -> i64 {
     result.sum as i64 + i64::from(face.loads.axial)
 }
 
+/// `area` is that of the bolts' size; none is refusal 10, field 4.
 fn work_face(
     column: &Column,
     bolts: &Bolts,
+    area: Option<u32>,
     face: &Face,
     faces: Faces,
 ) -> Result<FaceResult, Trouble> {
-    if let Some(field) = first_outside(column, bolts, face) {
+    if let Some(field) = first_outside(column, bolts, area, face) {
         return Err(Trouble::Field(field));
     }
+    let area = area.expect("field 4 is in range");
     if !levers_fall(face) {
         return Err(Trouble::LeverOrder);
     }
@@ -70,7 +76,7 @@ fn work_face(
         return Err(Trouble::RowPlace);
     }
     let distances = Distances::of(column, face).ok_or(Trouble::TooTight)?;
-    let bolt = BoltStrengths::of(bolts);
+    let bolt = BoltStrengths::of(bolts, area);
     let steel = SteelStrengths::of(column, face);
     if both_too_thick(column, &face.plate, &steel, &bolt) {
         return Err(Trouble::TooThick);

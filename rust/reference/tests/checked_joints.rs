@@ -2,7 +2,7 @@
 
 use reference::{
     allocate, read, sheet, work, write, Check, FileKind, Joint, ReadRefusal, Trouble, WorkRefusal,
-    LONGEST_FILE,
+    BUILT_IN, LONGEST_FILE,
 };
 
 fn forces(limits: &[u64], rows: usize) -> Vec<u64> {
@@ -79,7 +79,7 @@ fn joint_h() {
 
 #[test]
 fn joint_i_is_worked() {
-    let result = work(&joint_i()).unwrap().face;
+    let result = work(&BUILT_IN, &joint_i()).unwrap().face;
     assert_eq!(result.forces, [219_345, 0, 0, 0, 0, 0, 0, 0]);
     assert_eq!(
         (result.sum, result.newton_metres, result.cap),
@@ -102,14 +102,14 @@ fn joint_i_is_printed() {
 fn joint_i_at_its_governing_force() {
     let mut joint = joint_i();
     joint.face.loads.axial = 407_706;
-    let result = work(&joint).unwrap().face;
+    let result = work(&BUILT_IN, &joint).unwrap().face;
     assert_eq!(
         (result.forces[0], result.cap, result.governing_force),
         (0, 0, 407_706)
     );
     joint.face.loads.axial = 407_707;
     assert_eq!(
-        work(&joint),
+        work(&BUILT_IN, &joint),
         Err(WorkRefusal {
             trouble: Trouble::Compression,
             face: 0
@@ -123,7 +123,7 @@ fn joint_i_near_the_column_end() {
     let governing = |end_distance| {
         let mut joint = joint_i();
         joint.column.end_distance = end_distance;
-        let result = work(&joint).unwrap().face;
+        let result = work(&BUILT_IN, &joint).unwrap().face;
         assert_eq!(result.check, Check::Buckling);
         result.governing_force
     };

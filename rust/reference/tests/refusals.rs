@@ -2,7 +2,7 @@
 
 use reference::{
     allocate, read, rest, sheet, write, AllocateRefusal, Face, FaceResult, FileKind, Joint,
-    ReadRefusal, Trouble, WriteRefusal, LONGEST_FILE,
+    ReadRefusal, Trouble, WriteRefusal, BUILT_IN, LONGEST_FILE,
 };
 
 const KINDS: [FileKind; 2] = [FileKind::Old, FileKind::New];
@@ -20,7 +20,7 @@ fn fields() -> [u32; 38] {
 
 /// The joint worked; of a joint with one face neither answer tells of two.
 fn work(joint: &Joint) -> Result<FaceResult, Trouble> {
-    match reference::work(joint) {
+    match reference::work(&BUILT_IN, joint) {
         Ok(result) => {
             assert_eq!(result.other, None);
             Ok(result.face)
@@ -285,7 +285,7 @@ fn work_10_other_fields() {
     for (edge, field) in [(149, 21), (150, 0), (2000, 0), (2001, 21), (0, 21)] {
         assert_eq!(field_of(&extended(|face| face.layout.edge = edge)), field);
     }
-    let refusal = reference::work(&with_field(3, 47)).unwrap_err();
+    let refusal = reference::work(&BUILT_IN, &with_field(3, 47)).unwrap_err();
     assert_eq!((refusal.number(), refusal.field()), (10, 3));
 }
 

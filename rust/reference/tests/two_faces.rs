@@ -2,7 +2,7 @@
 
 use reference::{
     read, rest, sheet, work, write, Check, FaceResult, FileKind, Joint, ReadRefusal, WriteRefusal,
-    LONGEST_FILE, SECOND_FACE,
+    BUILT_IN, LONGEST_FILE, SECOND_FACE,
 };
 
 const KINDS: [FileKind; 2] = [FileKind::Old, FileKind::New];
@@ -40,14 +40,14 @@ fn weak_panel(change: impl FnOnce(&mut Joint)) -> Joint {
 }
 
 fn results(joint: &Joint) -> ([FaceResult; 2], bool) {
-    let result = work(joint).unwrap();
+    let result = work(&BUILT_IN, joint).unwrap();
     let other = result.other.unwrap();
     ([result.face, other.face], other.panel_passes)
 }
 
 /// Number, field and face.
 fn refusal(joint: &Joint) -> (u32, u32, u32) {
-    let refusal = work(joint).unwrap_err();
+    let refusal = work(&BUILT_IN, joint).unwrap_err();
     (refusal.number(), refusal.field(), refusal.face)
 }
 
@@ -76,7 +76,7 @@ fn lines(input: &[u8]) -> String {
 fn panel_shear_is_not_in_the_cap() {
     let two = weak_panel(|_| ());
     let one = weak_panel(|joint| joint.face.rows -= SECOND_FACE);
-    let alone = work(&one).unwrap().face;
+    let alone = work(&BUILT_IN, &one).unwrap().face;
     assert_eq!((alone.check, alone.governing_force), (Check::Panel, 49500));
     for face in results(&two).0 {
         assert_eq!(face.check, Check::Buckling);
@@ -186,8 +186,8 @@ fn no_second_face_is_looked_at_in_a_joint_with_one() {
         joint.face.rows = 1;
         joint.other = Default::default();
     });
-    assert_eq!(work(&junk), work(&clean));
-    assert!(work(&junk).unwrap().other.is_none());
+    assert_eq!(work(&BUILT_IN, &junk), work(&BUILT_IN, &clean));
+    assert!(work(&BUILT_IN, &junk).unwrap().other.is_none());
     assert_eq!(file_of(&junk), file_of(&clean));
 }
 

@@ -3,7 +3,8 @@
 use crate::random::Random;
 use crate::two_faces::{any_two_faced_joint, unread_face};
 use reference::{
-    work, Beam, Bolts, Column, Face, Joint, Layout, Loads, Plate, Welds, ONE_FACED_FIELDS,
+    work, Beam, BoltTable, Bolts, Column, Face, Joint, Layout, Loads, Plate, Welds,
+    ONE_FACED_FIELDS,
 };
 
 /// The ends of fields 8 to 20, 22 to 26 and 30, which are plain ranges.
@@ -29,13 +30,13 @@ const RANGES: [(usize, u32, u32); 19] = [
     (30, 1, 15000),
 ];
 
-/// A joint in range whose distances mostly leave room, with `rows` rows.
-pub fn sensible_joint(random: &mut Random, rows: u32) -> Joint {
+/// A joint in range whose distances mostly leave room, with `rows` rows and bolts of the table, which is one that loading takes.
+pub fn sensible_joint(random: &mut Random, table: &BoltTable, rows: u32) -> Joint {
     let mut joint = Joint {
         column: column(random),
         bolts: Bolts {
             class: random.pick(&[46, 88, 88, 109, 109]),
-            diameter: random.pick(&[12, 16, 20, 24, 30]),
+            diameter: random.pick(listed_diameters(table)),
         },
         face: face(random, rows),
         other: Face::default(),
@@ -44,6 +45,10 @@ pub fn sensible_joint(random: &mut Random, rows: u32) -> Joint {
     joint.face.layout.gauge = gauge(random, &joint.column, &joint.face);
     place_rows(random, &mut joint.face);
     joint
+}
+
+fn listed_diameters(table: &BoltTable) -> &[u32] {
+    &table.diameters[..table.count as usize]
 }
 
 fn grade(random: &mut Random) -> u32 {
@@ -142,31 +147,31 @@ fn loads(random: &mut Random) -> Loads {
 }
 
 /// A sensible joint that Work does not refuse.
-pub fn worked_joint(random: &mut Random, rows: u32) -> Joint {
+pub fn worked_joint(random: &mut Random, table: &BoltTable, rows: u32) -> Joint {
     loop {
-        let joint = sensible_joint(random, rows);
-        if work(&joint).is_ok() {
+        let joint = sensible_joint(random, table, rows);
+        if work(table, &joint).is_ok() {
             return joint;
         }
     }
 }
 
-/// With one face or two.
-pub fn any_joint(random: &mut Random) -> Joint {
+/// With one face or two, and mostly with bolts of the table, which is one that loading takes.
+pub fn any_joint(random: &mut Random, table: &BoltTable) -> Joint {
     if random.one_in(3) {
-        any_two_faced_joint(random)
+        any_two_faced_joint(random, table)
     } else {
-        any_one_faced_joint(random)
+        any_one_faced_joint(random, table)
     }
 }
 
 /// A sensible joint, or one in trouble, or with anything in all its fields; now and then with something in the fields of a second face.
-fn any_one_faced_joint(random: &mut Random) -> Joint {
+fn any_one_faced_joint(random: &mut Random, table: &BoltTable) -> Joint {
     let rows = random.between(1, 8);
-    let mut joint = sensible_joint(random, rows);
+    let mut joint = sensible_joint(random, table, rows);
     match random.below(24) {
-        0..=6 => trouble(random, &mut joint),
-        7 => compress(random, &mut joint),
+        0..=6 => trouble(random, table, &mut joint),
+        7 => compress(random, table, &mut joint),
         8 => wild_fields(random, &mut joint),
         _ => {}
     }
@@ -177,10 +182,10 @@ fn any_one_faced_joint(random: &mut Random) -> Joint {
 }
 
 /// A field at or past an end of its range, rows out of order or out of place, bolts too tight, or parts too thick.
-pub fn trouble(random: &mut Random, joint: &mut Joint) {
+pub fn trouble(random: &mut Random, table: &BoltTable, joint: &mut Joint) {
     match random.below(7) {
-        0 | 1 => shift_field(random, joint, false),
-        2 => shift_field(random, joint, true),
+        0 | 1 => shift_field(random, table, joint, false),
+        2 => shift_field(random, table, joint, true),
         3 => swap_levers(random, &mut joint.face),
         4 => move_row(random, &mut joint.face),
         5 => tighten(random, joint),
@@ -188,16 +193,16 @@ pub fn trouble(random: &mut Random, joint: &mut Joint) {
     }
 }
 
-/// Column flange or plate is mostly thin enough for the bolts.
+/// Column flange or plate is mostly thin enough for the bolts; for small ones no plate is.
 fn thin_one_part(random: &mut Random, joint: &mut Joint) {
     if random.one_in(12) {
         return;
     }
     let thinnest = joint.bolts.diameter * 7;
-    if random.one_in(2) {
+    if random.one_in(2) || thinnest < 60 {
         joint.column.flange = random.between(40, thinnest);
     } else {
-        joint.face.plate.thickness = random.between(60, thinnest.max(60));
+        joint.face.plate.thickness = random.between(60, thinnest);
     }
 }
 
@@ -257,10 +262,10 @@ pub fn place_rows(random: &mut Random, face: &mut Face) {
 }
 
 /// One field at an end of its range, or one past it, or anywhere.
-fn shift_field(random: &mut Random, joint: &mut Joint, anywhere: bool) {
+fn shift_field(random: &mut Random, table: &BoltTable, joint: &mut Joint, anywhere: bool) {
     let mut fields = joint.to_fields();
     let place = random.below(ONE_FACED_FIELDS as u64) as usize;
-    let (low, high) = ends(&joint.face, place + 1);
+    let (low, high) = ends(table, &joint.face, place + 1);
     fields[place] = match random.below(if anywhere { 8 } else { 5 }) {
         0 => low,
         1 => high,
@@ -274,7 +279,8 @@ fn shift_field(random: &mut Random, joint: &mut Joint, anywhere: bool) {
 }
 
 /// The least and greatest value of a field, by its number.
-fn ends(face: &Face, number: usize) -> (u32, u32) {
+fn ends(table: &BoltTable, face: &Face, number: usize) -> (u32, u32) {
+    let diameters = listed_diameters(table);
     if let Some(&(_, low, high)) = RANGES.iter().find(|range| range.0 == number) {
         return (low, high);
     }
@@ -282,7 +288,7 @@ fn ends(face: &Face, number: usize) -> (u32, u32) {
         1 => (1, 8),
         2 => (0, 1),
         3 => (46, 109),
-        4 => (12, 30),
+        4 => (diameters[0], diameters[diameters.len() - 1]),
         5..=7 => (275, 355),
         21 if face.is_extended() => (150, 2000),
         21 => (0, 0),
@@ -357,9 +363,9 @@ fn thicken(random: &mut Random, joint: &mut Joint) {
 }
 
 /// N about at the governing force.
-fn compress(random: &mut Random, joint: &mut Joint) {
+fn compress(random: &mut Random, table: &BoltTable, joint: &mut Joint) {
     joint.face.loads.axial = -10_000_000;
-    if let Ok(result) = work(joint) {
+    if let Ok(result) = work(table, joint) {
         joint.face.loads.axial = near(random, result.face.governing_force);
     }
 }
@@ -384,8 +390,7 @@ fn wild_fields(random: &mut Random, joint: &mut Joint) {
 pub fn scatter(random: &mut Random, fields: &mut [u32]) {
     for field in fields {
         if random.one_in(4) {
-            let bits = random.between(1, 32);
-            *field = (random.next() >> (64 - bits)) as u32;
+            *field = random.of_any_size();
         }
     }
 }

@@ -29,6 +29,12 @@ impl Random {
         low + self.below(u64::from(high.saturating_sub(low)) + 1) as u32
     }
 
+    /// A number of any length in bits, up to 32.
+    pub fn of_any_size(&mut self) -> u32 {
+        let bits = self.between(1, 32);
+        (self.next() >> (64 - bits)) as u32
+    }
+
     /// True once in `count`.
     pub fn one_in(&mut self, count: u64) -> bool {
         self.below(count) == 0

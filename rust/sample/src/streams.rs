@@ -2,7 +2,7 @@
 
 use crate::joints::any_joint;
 use crate::random::Random;
-use reference::{write, FileKind, Joint, LONGEST_FILE, LONGEST_INPUT};
+use reference::{write, FileKind, Joint, BUILT_IN, LONGEST_FILE, LONGEST_INPUT};
 
 /// Numbers of a file before the distance to the column end, which the old kind lacks.
 const NUMBERS_BEFORE_END_DISTANCE: usize = 29;
@@ -38,7 +38,7 @@ pub fn stream(random: &mut Random, kind: FileKind) -> Vec<u8> {
     }
     let files = random.below(6);
     let mut bytes: Vec<u8> = (0..files)
-        .flat_map(|_| file_of_kind(&any_joint(random), kind))
+        .flat_map(|_| file_of_kind(&any_joint(random, &BUILT_IN), kind))
         .collect();
     for _ in 0..random.below(4) {
         damage(random, &mut bytes);
@@ -81,7 +81,7 @@ fn damage(random: &mut Random, bytes: &mut Vec<u8>) {
             bytes.insert(place + 1, 0);
         }
         _ => {
-            let piece = file_of(&any_joint(random));
+            let piece = file_of(&any_joint(random, &BUILT_IN));
             let from = random.below(piece.len() as u64 + 1) as usize;
             let end = (place + random.below(20) as usize).min(bytes.len());
             bytes.splice(place..end, piece[from..].iter().copied());
@@ -107,7 +107,7 @@ mod tests {
     fn the_old_kind_lacks_the_distance_to_the_column_end() {
         let mut random = Random::new(1);
         for _ in 0..10_000 {
-            let mut joint = any_joint(&mut random);
+            let mut joint = any_joint(&mut random, &BUILT_IN);
             let file = file_of_kind(&joint, FileKind::Old);
             if !file.is_empty() {
                 joint.column.end_distance = 15000;

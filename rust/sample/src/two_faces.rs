@@ -2,11 +2,12 @@
 
 use crate::joints::{face, gauge, near, place_rows, scatter, sensible_joint, trouble};
 use crate::random::Random;
-use reference::{panel_shear, work, Face, Joint, FIELDS, SECOND_FACE};
+use reference::{panel_shear, work, BoltTable, Face, Joint, FIELDS, SECOND_FACE};
 
-/// A joint in range whose distances mostly leave room, with so many rows on its faces.
-pub fn sensible_two_faced_joint(random: &mut Random, rows: [u32; 2]) -> Joint {
-    let mut joint = sensible_joint(random, rows[0]);
+/// A joint in range whose distances mostly leave room, with so many rows on its faces and bolts of the table, which is one that loading
+/// takes.
+pub fn sensible_two_faced_joint(random: &mut Random, table: &BoltTable, rows: [u32; 2]) -> Joint {
+    let mut joint = sensible_joint(random, table, rows[0]);
     joint.face.rows += SECOND_FACE;
     let mut other = face(random, rows[1]);
     thin_plate(random, &joint, &mut other);
@@ -25,10 +26,10 @@ fn thin_plate(random: &mut Random, joint: &Joint, other: &mut Face) {
 }
 
 /// A sensible joint with two faces that Work does not refuse.
-pub fn worked_two_faced_joint(random: &mut Random, rows: [u32; 2]) -> Joint {
+pub fn worked_two_faced_joint(random: &mut Random, table: &BoltTable, rows: [u32; 2]) -> Joint {
     loop {
-        let joint = sensible_two_faced_joint(random, rows);
-        if work(&joint).is_ok() {
+        let joint = sensible_two_faced_joint(random, table, rows);
+        if work(table, &joint).is_ok() {
             return joint;
         }
     }
@@ -36,54 +37,54 @@ pub fn worked_two_faced_joint(random: &mut Random, rows: [u32; 2]) -> Joint {
 
 /// A sensible joint with two faces, or one of them in trouble, or both, or with the panel about as strong as it must be, or with
 /// anything in all its fields.
-pub fn any_two_faced_joint(random: &mut Random) -> Joint {
+pub fn any_two_faced_joint(random: &mut Random, table: &BoltTable) -> Joint {
     let rows = [random.between(1, 8), random.between(1, 8)];
-    let mut joint = sensible_two_faced_joint(random, rows);
+    let mut joint = sensible_two_faced_joint(random, table, rows);
     match random.below(24) {
-        0..=2 => trouble_first(random, &mut joint),
-        3..=6 => trouble_second(random, &mut joint),
-        7 => trouble_both(random, &mut joint),
-        8 => compress(random, &mut joint),
-        9..=12 => strain_panel(random, &mut joint),
+        0..=2 => trouble_first(random, table, &mut joint),
+        3..=6 => trouble_second(random, table, &mut joint),
+        7 => trouble_both(random, table, &mut joint),
+        8 => compress(random, table, &mut joint),
+        9..=12 => strain_panel(random, table, &mut joint),
         13 => wild_fields(random, &mut joint),
         _ => {}
     }
     joint
 }
 
-fn trouble_first(random: &mut Random, joint: &mut Joint) {
+fn trouble_first(random: &mut Random, table: &BoltTable, joint: &mut Joint) {
     let mut alone = Joint {
         face: joint.first_of_two(),
         ..*joint
     };
-    trouble(random, &mut alone);
+    trouble(random, table, &mut alone);
     alone.face.rows = alone.face.rows.wrapping_add(SECOND_FACE);
     *joint = alone;
 }
 
 /// Or of what the faces share.
-fn trouble_second(random: &mut Random, joint: &mut Joint) {
+fn trouble_second(random: &mut Random, table: &BoltTable, joint: &mut Joint) {
     let mut alone = Joint {
         face: joint.other,
         ..*joint
     };
-    trouble(random, &mut alone);
+    trouble(random, table, &mut alone);
     joint.column = alone.column;
     joint.bolts = alone.bolts;
     joint.other = alone.face;
 }
 
 /// Each from the sensible joint.
-fn trouble_both(random: &mut Random, joint: &mut Joint) {
+fn trouble_both(random: &mut Random, table: &BoltTable, joint: &mut Joint) {
     let mut second = *joint;
-    trouble_second(random, &mut second);
-    trouble_first(random, joint);
+    trouble_second(random, table, &mut second);
+    trouble_first(random, table, joint);
     joint.other = second.other;
 }
 
 /// N of one face about at its governing force, which panel shear is no part of.
-fn compress(random: &mut Random, joint: &mut Joint) {
-    let Some(faces) = pulled(joint) else {
+fn compress(random: &mut Random, table: &BoltTable, joint: &mut Joint) {
+    let Some(faces) = pulled(table, joint) else {
         return;
     };
     let at_second = random.one_in(2);
@@ -105,11 +106,11 @@ struct Pulled {
 }
 
 /// Both faces pulled as far as they can be; none where the joint is refused even so.
-fn pulled(joint: &Joint) -> Option<[Pulled; 2]> {
+fn pulled(table: &BoltTable, joint: &Joint) -> Option<[Pulled; 2]> {
     let mut pulled = *joint;
     pulled.face.loads.axial = -10_000_000;
     pulled.other.loads.axial = -10_000_000;
-    let result = work(&pulled).ok()?;
+    let result = work(table, &pulled).ok()?;
     Some([result.face, result.other?.face].map(|face| Pulled {
         sum: face.sum as i64,
         governing_force: face.governing_force,
@@ -118,9 +119,9 @@ fn pulled(joint: &Joint) -> Option<[Pulled; 2]> {
 }
 
 /// Totals that differ by about what panel shear takes, with N as each face's cap allows it.
-fn strain_panel(random: &mut Random, joint: &mut Joint) {
+fn strain_panel(random: &mut Random, table: &BoltTable, joint: &mut Joint) {
     joint.column.depth = random.pick(&[1000, 1000, joint.column.depth]);
-    let Some(mut faces) = pulled(joint) else {
+    let Some(mut faces) = pulled(table, joint) else {
         return;
     };
     let turned = random.one_in(2);
@@ -170,6 +171,7 @@ pub fn unread_face(random: &mut Random, first: &Face) -> Face {
 #[cfg(test)]
 mod tests {
     use super::*;
+    use reference::BUILT_IN;
 
     /// How often the totals differ by panel shear, and by one newton more.
     #[test]
@@ -177,9 +179,9 @@ mod tests {
         let mut random = Random::new(3);
         let (mut at_edge, mut past_edge) = (0, 0);
         for _ in 0..2_000 {
-            let mut joint = sensible_two_faced_joint(&mut random, [2, 3]);
-            strain_panel(&mut random, &mut joint);
-            let Ok(result) = work(&joint) else {
+            let mut joint = sensible_two_faced_joint(&mut random, &BUILT_IN, [2, 3]);
+            strain_panel(&mut random, &BUILT_IN, &mut joint);
+            let Ok(result) = work(&BUILT_IN, &joint) else {
                 continue;
             };
             let other = result.other.unwrap();
@@ -200,8 +202,9 @@ mod tests {
     #[test]
     fn most_joints_with_two_faces_are_worked() {
         let mut random = Random::new(4);
-        let worked = (0..2_000).filter(|_| work(&any_two_faced_joint(&mut random)).is_ok());
-        let count = worked.count();
+        let mut is_worked =
+            || work(&BUILT_IN, &any_two_faced_joint(&mut random, &BUILT_IN)).is_ok();
+        let count = (0..2_000).filter(|_| is_worked()).count();
         assert!(count > 500, "{count}");
     }
 }

@@ -1,7 +1,7 @@
 //! The kinds of vectors, and reading what they ask.
 
 use crate::items::{Form, Items};
-use reference::{FileKind, Joint};
+use reference::{BoltTable, FileKind, Joint, BUILT_IN};
 
 /// The longest buffer that Write is lent.
 const LONGEST_BUFFER: u64 = 512;
@@ -11,12 +11,21 @@ const MOST_LIMITS: usize = 64;
 /// What a vector asks.
 #[derive(Debug, PartialEq)]
 pub enum Call {
-    Work { joint: Joint, form: Form },
+    Load(BoltTable),
+    Work(Work),
     Allocate { count: u64, limits: Vec<u64> },
     Read { bytes: Vec<u8>, kind: FileKind },
     Write { joint: Joint, size: usize },
     Cell(Cell),
     Shear { printed: Printed, joint: Joint },
+}
+
+/// A joint to be worked by a bolt table.
+#[derive(Debug, PartialEq)]
+pub struct Work {
+    pub table: BoltTable,
+    pub joint: Joint,
+    pub form: Form,
 }
 
 /// A figure of P207 that Work gives, or one that is known not to agree.
@@ -42,7 +51,12 @@ impl Call {
     pub fn of(text: &str) -> Result<Call, String> {
         let (word, mut items) = Items::of(text);
         let call = match word {
-            "work" => work(&mut items)?,
+            "load" => Call::Load(items.bolt_table()?),
+            "own" => {
+                let table = items.bolt_table()?;
+                Call::Work(work(&mut items, table)?)
+            }
+            "work" => Call::Work(work(&mut items, BUILT_IN)?),
             "allocate" => allocate(&mut items)?,
             "read" => read(&mut items, FileKind::New)?,
             "old" => read(&mut items, FileKind::Old)?,
@@ -60,10 +74,10 @@ impl Call {
     }
 }
 
-fn work(items: &mut Items) -> Result<Call, String> {
+fn work(items: &mut Items, table: BoltTable) -> Result<Work, String> {
     let form = items.form(0);
     let joint = items.joint(form)?;
-    Ok(Call::Work { joint, form })
+    Ok(Work { table, joint, form })
 }
 
 fn write(items: &mut Items) -> Result<Call, String> {
@@ -110,14 +124,19 @@ fn printed(items: &mut Items) -> Result<Printed, String> {
 #[cfg(test)]
 mod tests {
     use super::*;
-    use crate::{JOINT_I, SECOND_FACE_I};
+    use crate::{BUILT_IN_TABLE, JOINT_I, SECOND_FACE_I};
+
+    fn work_of(text: &str) -> Work {
+        match Call::of(text) {
+            Ok(Call::Work(work)) => work,
+            other => panic!("{other:?}"),
+        }
+    }
 
     #[test]
     fn good_lines() {
-        let Ok(Call::Work { joint, form }) = Call::of(&format!("work {JOINT_I}")) else {
-            panic!("work");
-        };
-        assert_eq!(form, Form::Short);
+        let Work { table, joint, form } = work_of(&format!("work {JOINT_I}"));
+        assert_eq!((table, form), (BUILT_IN, Form::Short));
         let written = Call::Write { joint, size: 512 };
         assert_eq!(Call::of(&format!("write {JOINT_I} 512")), Ok(written));
         let none = Call::Allocate {
@@ -149,10 +168,7 @@ mod tests {
 
     #[test]
     fn joints_of_both_forms() {
-        let Ok(Call::Work { joint, form }) = Call::of(&format!("work {JOINT_I} {SECOND_FACE_I}"))
-        else {
-            panic!("work");
-        };
+        let Work { joint, form, .. } = work_of(&format!("work {JOINT_I} {SECOND_FACE_I}"));
         assert_eq!(form, Form::Long);
         assert_eq!(joint.other, joint.face);
         let written = Call::Write { joint, size: 0 };
@@ -170,6 +186,40 @@ mod tests {
         let one_short = SECOND_FACE_I.strip_suffix(" 0").unwrap();
         assert_eq!(
             Call::of(&format!("write {JOINT_I} {one_short} 0")).unwrap_err(),
+            "`0` stands after the last item"
+        );
+    }
+
+    #[test]
+    fn tables() {
+        let numbers: Vec<u32> = (1..=24).chain([u32::MAX]).collect();
+        let table = BoltTable::from_words(&numbers[..].try_into().unwrap());
+        let items: Vec<String> = numbers.iter().map(u32::to_string).collect();
+        let items = items.join(" ");
+        assert_eq!(Call::of(&format!("load {items}")), Ok(Call::Load(table)));
+        assert_eq!(
+            Call::of(&format!("load {BUILT_IN_TABLE}")),
+            Ok(Call::Load(BUILT_IN))
+        );
+        let short = work_of(&format!("own {items} {JOINT_I}"));
+        assert_eq!((short.table, short.form), (table, Form::Short));
+        let long = work_of(&format!("own {items} {JOINT_I} {SECOND_FACE_I}"));
+        assert_eq!((long.table, long.form), (table, Form::Long));
+        assert_eq!(short.joint.face, long.joint.other);
+        let why = |text: String| Call::of(&text).unwrap_err();
+        let past_32_bits = items.replace("4294967295", "4294967296");
+        assert_eq!(
+            why(format!("load {past_32_bits}")),
+            "item 25, `4294967296`: not a number from 0 to 4294967295"
+        );
+        assert_eq!(why("load 5 12".to_string()), "item 3 is missing");
+        assert_eq!(
+            why(format!("load {items} 0")),
+            "`0` stands after the last item"
+        );
+        assert_eq!(why(format!("own {items}")), "item 26 is missing");
+        assert_eq!(
+            why(format!("own {items} {JOINT_I} 0")),
             "`0` stands after the last item"
         );
     }

@@ -1,9 +1,10 @@
 //! What each vector should come to, by the plain reading.
 
-use crate::call::{Call, Cell, Printed};
+use crate::call::{Call, Cell, Printed, Work};
 use crate::items::{Answer, Form};
 use reference::{
-    allocate, read, work, write, FaceResult, FileKind, Joint, JointResult, WorkRefusal, ROWS,
+    allocate, load, read, work, write, BoltTable, FaceResult, FileKind, Joint, JointResult,
+    WorkRefusal, BUILT_IN, ROWS,
 };
 
 /// What each byte of the buffer is before Write is called.
@@ -12,7 +13,8 @@ const UNWRITTEN: u8 = 0xa5;
 /// The expected items. A printed figure that isn't met as its line says is an error.
 pub fn expected(call: &Call) -> Result<String, String> {
     let answer = match call {
-        Call::Work { joint, form } => worked(&work(joint), *form),
+        Call::Load(table) => loaded(table),
+        Call::Work(Work { table, joint, form }) => worked(&work(table, joint), *form),
         Call::Allocate { count, limits } => shared(*count, limits),
         Call::Read { bytes, kind } => joint_read(bytes, *kind),
         Call::Write { joint, size } => written(joint, *size),
@@ -20,6 +22,16 @@ pub fn expected(call: &Call) -> Result<String, String> {
         Call::Shear { printed, joint } => shear_met(printed, joint)?,
     };
     Ok(answer.text())
+}
+
+/// The refusal, and the table in force after it; before it that is the one built in.
+fn loaded(table: &BoltTable) -> Answer {
+    let mut in_force = BUILT_IN;
+    let refusal = match load(table, &mut in_force) {
+        Ok(()) => 0,
+        Err(refusal) => refusal as u64,
+    };
+    Answer::default().number(refusal).bolt_table(&in_force)
 }
 
 /// Of a joint in the long form the second face's result, the panel's verdict and the face refused come last.
@@ -106,7 +118,7 @@ fn written(joint: &Joint, size: usize) -> Answer {
 
 /// A cell agrees; an exception doesn't.
 fn cell_met(cell: &Cell) -> Result<Answer, String> {
-    let items = first_face_items(&work(&cell.joint));
+    let items = first_face_items(&work(&BUILT_IN, &cell.joint));
     let figure = items[cell.place - 1];
     let agrees = agrees(&cell.printed, figure);
     if agrees == cell.is_exception {
@@ -149,7 +161,7 @@ fn bolts_pass(joint: &Joint, count: u64, force: Option<u64>) -> Result<u64, Stri
         .ok_or("the shear force isn't one of 32 bits")?;
     let mut joint = *joint;
     joint.face.loads.shear = shear;
-    match work(&joint) {
+    match work(&BUILT_IN, &joint) {
         Ok(result) => Ok(u64::from(result.face.verdicts.bolts)),
         Err(refusal) => Err(format!("refused by {}", refusal.number())),
     }
@@ -158,7 +170,7 @@ fn bolts_pass(joint: &Joint, count: u64, force: Option<u64>) -> Result<u64, Stri
 #[cfg(test)]
 mod tests {
     use super::*;
-    use crate::{JOINT_I, SECOND_FACE_I};
+    use crate::{BUILT_IN_TABLE, JOINT_I, SECOND_FACE_I};
 
     const RESULT_I: &str = " 0 0 219345 0 0 0 0 0 0 0 219345 52642 407706 2 407706 1 1 1 1";
     const FILE_I: &str = "01005814930293029302a329a7108401607f9d25ff17f90c7643d00fc801840700d804503cd00f0100a8bd03d086039875e012";
@@ -184,6 +196,44 @@ mod tests {
             answer(&format!("work {compressed}")).unwrap(),
             format!(" 15{}", zeros(18))
         );
+    }
+
+    /// M22 of 303 mm² and something past the count.
+    const OWN_TABLE: &str = "2 20 22 22 9 9 9 9 9 9 9 9 9 2450 3030 1 0 0 0 0 0 0 0 0 0";
+
+    #[test]
+    fn load_vectors() {
+        let loaded = |table: &str| answer(&format!("load {table}")).unwrap();
+        assert_eq!(loaded(BUILT_IN_TABLE), format!(" 0 {BUILT_IN_TABLE}"));
+        assert_eq!(loaded(OWN_TABLE), format!(" 0 {OWN_TABLE}"));
+        for (found, changed, refusal) in [
+            ("2 20", "0 20", 16),
+            ("2 20", "13 20", 16),
+            ("20 22 22", "20 65 22", 16),
+            ("2 20", "3 20", 17),
+            ("2450 3030", "3141 3030", 18),
+        ] {
+            assert_eq!(
+                loaded(&OWN_TABLE.replacen(found, changed, 1)),
+                format!(" {refusal} {BUILT_IN_TABLE}")
+            );
+        }
+    }
+
+    #[test]
+    fn work_vectors_by_own_tables() {
+        let own = |table: &str, joint: &str| answer(&format!("own {table} {joint}")).unwrap();
+        assert_eq!(own(BUILT_IN_TABLE, JOINT_I), RESULT_I);
+        assert_eq!(own(OWN_TABLE, JOINT_I), RESULT_I);
+        let result = " 255434 0 0 0 0 0 0 0 255434 61304 407706 2 407706 1 1 1 1";
+        let m22 = JOINT_I.replacen(" 88 20 ", " 88 22 ", 1);
+        assert_eq!(own(OWN_TABLE, &m22), format!(" 0 0{result}"));
+        let refused = format!(" 10 4{}", zeros(17));
+        assert_eq!(own(BUILT_IN_TABLE, &m22), refused);
+        assert_eq!(own(&OWN_TABLE.replacen('2', "3", 1), &m22), refused);
+        let both = two_faced().replacen(" 88 20 ", " 88 22 ", 1);
+        assert_eq!(own(OWN_TABLE, &both), format!(" 0 0{result}{result} 1 0"));
+        assert_eq!(own(BUILT_IN_TABLE, &both), format!(" 10 4{} 1", zeros(35)));
     }
 
     /// Joint I on both faces.

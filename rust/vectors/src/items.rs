@@ -1,6 +1,6 @@
-//! The items of a vector: numbers, bytes and joints, each with one space before it.
+//! The items of a vector: numbers, bytes, joints and bolt tables, each with one space before it.
 
-use reference::{Joint, FIELDS, ONE_FACED_FIELDS};
+use reference::{BoltTable, Joint, FIELDS, ONE_FACED_FIELDS, TABLE_WORDS};
 use std::fmt::Write;
 use std::ops::RangeInclusive;
 
@@ -63,10 +63,19 @@ impl<'a> Items<'a> {
             *field = if AXIALS.contains(&place) {
                 self.signed()? as u32
             } else {
-                self.number(0..=u64::from(u32::MAX))? as u32
+                self.word()?
             };
         }
         Ok(Joint::from_fields(&fields))
+    }
+
+    /// The count, twelve diameters and twelve areas, spare ones too.
+    pub fn bolt_table(&mut self) -> Result<BoltTable, String> {
+        let mut words = [0; TABLE_WORDS];
+        for word in &mut words {
+            *word = self.word()?;
+        }
+        Ok(BoltTable::from_words(&words))
     }
 
     /// The form of the joint that comes next, with so many items after it: a long one where there are enough.
@@ -90,6 +99,10 @@ impl<'a> Items<'a> {
             None => Ok(()),
             Some(item) => Err(format!("`{item}` stands after the last item")),
         }
+    }
+
+    fn word(&mut self) -> Result<u32, String> {
+        Ok(self.number(0..=u64::from(u32::MAX))? as u32)
     }
 
     fn signed(&mut self) -> Result<i32, String> {
@@ -176,6 +189,10 @@ impl Answer {
             }
         }
         self
+    }
+
+    pub fn bolt_table(self, table: &BoltTable) -> Answer {
+        self.numbers(&table.to_words().map(u64::from))
     }
 
     pub fn bytes(mut self, bytes: &[u8]) -> Answer {

@@ -67,6 +67,10 @@ const JOINT_I: &str = "1 0 88 20 275 275 275 5283 2087 132 96 127 4765 3071 1657
 const SECOND_FACE_I: &str =
     "1 0 275 275 3071 1657 118 67 2000 200 900 0 600 80 60 2000 1 0 57000 50000 2400 0 0 0 0 0 0 0";
 
+/// The bolt table built in.
+#[cfg(test)]
+const BUILT_IN_TABLE: &str = "5 12 16 20 24 30 0 0 0 0 0 0 0 843 1570 2450 3530 5610 0 0 0 0 0 0 0";
+
 #[cfg(test)]
 mod tests {
     use super::*;

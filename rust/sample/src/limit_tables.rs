@@ -4,14 +4,14 @@ use crate::random::Random;
 
 /// A count of rows and the limits handed with it.
 #[derive(Debug)]
-pub struct Table {
+pub struct LimitTable {
     pub count: usize,
     pub limits: Vec<u64>,
 }
 
 const GREATEST: u64 = 4_000_000_000;
 
-pub fn table(random: &mut Random) -> Table {
+pub fn limit_table(random: &mut Random) -> LimitTable {
     let count = count(random);
     let needed = count.min(9) * (count.min(9) + 1) / 2;
     let length = match random.below(16) {
@@ -22,7 +22,7 @@ pub fn table(random: &mut Random) -> Table {
     };
     let kind = random.below(8);
     let limits = (0..length).map(|_| limit(random, kind)).collect();
-    Table { count, limits }
+    LimitTable { count, limits }
 }
 
 fn count(random: &mut Random) -> usize {
