@@ -12,7 +12,7 @@ use mir.Facts.{and-yes}
 use Rattle.arithmetic.specs.Range.{Within, within}
 use Rattle.arithmetic.proofs.Bounds.{exactly, atMost, _⊗_, _⊘_, within-yes}
 use Rattle.arithmetic.proofs.Checks.{all-hold}
-use Rattle.bolttable.specs.Loading.{Size, boltDiameters, boltAreas, sizeCounts, sizesIn, countedSizes, eachSize, sizeInRange, areaFits}
+use Rattle.bolttable.specs.Loading.{Size, boltDiameters, boltAreas, sizeCounts, sizesIn, countedSizes, eachSize, sizeInRange, diametersRise, areaFits}
 use Rattle.bolttable.specs.Loading.{tableRefusals, tableCheck}
 use Rattle.bolttable.specs.Area.{ifTaken, areaAmong, areaOf}
 use Rattle.bolttable.specs.InRange.{AreaInRange, mostArea}
@@ -21,30 +21,6 @@ use Rattle.bolttable.specs.declared.BoltArea.{BoltArea}
 use Rattle.bolttable.specs.declared.BoltArea.the-variants.{Listed, Unlisted}
 use Rattle.bolttable.specs.declared.TableCheck.{TableCheck}
 use Rattle.bolttable.specs.declared.TableCheck.the-variants.{Taken, Refused}
-use Rattle.bolttable.proofs.Sizes.{sizeAt, sizes-from, sizes-end}
-
--- ---- one size after another
-
-module _ (diameter count : ℕ) (diameters areas : List ℕ) where
-  -- what the sizes from a place on list
-  abbrev pub among : (place : ℕ) → BoltArea
-  among place = areaAmong diameter (drop place (sizesIn count diameters areas))
-
-  module _ (h : count ≤ length diameters) (k : count ≤ length areas) where
-    pub found : (place : ℕ) → place < count → getD diameters place 0 ≡ diameter → Listed (getD areas place 0) ≡ among place
-    unfolding areaAmong
-    found place inside same =
-        sym (ap (areaAmong diameter) (sizes-from count diameters areas h k place inside) ∙ (rw (eq-eqb diameter _ (sym same))))
-
-    pub another : (place : ℕ) → place < count → (getD diameters place 0 ≡ diameter → ⊥) → among place ≡ among (place + 1)
-    unfolding areaAmong
-    another place inside other =
-        ap (areaAmong diameter) (sizes-from count diameters areas h k place inside)
-        ∙ (rw (ne-eqb diameter (getD diameters place 0) (λ same. other (sym same))))
-
-    pub none-left : (place : ℕ) → count ≤ place → Unlisted ≡ among place
-    unfolding areaAmong
-    none-left place past = sym (ap (areaAmong diameter) (sizes-end count diameters areas h k place past))
 
 -- ---- a table that is refused has no sizes, and one that is taken those that it counts
 
@@ -63,13 +39,17 @@ apart : (number : ℕ) → Taken ≡ Refused number → ⊥
 apart number e = let never : _≡_ {A = ℕ} 0 1 = cc in omega arith
 
 module _ (table : BoltTable) (e : tableCheck table ≡ Taken) where
-  counted-in-range : T (within sizeCounts (table .count)) × T (eachSize sizeInRange (countedSizes table))
+  pub counted-in-range : T (within sizeCounts (table .count)) × T (eachSize sizeInRange (countedSizes table))
   unfolding tableCheck tableRefusals
   counted-in-range =
       and-yes (within sizeCounts (table .count)) (eachSize sizeInRange (countedSizes table))
       (all-hold Taken Refused apart (tableRefusals table) e 0)
 
-  areas-fit : T (eachSize areaFits (countedSizes table))
+  pub diameters-rise : T (diametersRise (countedSizes table))
+  unfolding tableCheck tableRefusals
+  diameters-rise = all-hold Taken Refused apart (tableRefusals table) e 1
+
+  pub areas-fit : T (eachSize areaFits (countedSizes table))
   unfolding tableCheck tableRefusals
   areas-fit = all-hold Taken Refused apart (tableRefusals table) e 2
 

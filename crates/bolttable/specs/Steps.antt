@@ -1,11 +1,14 @@
--- A table tested in one pass over its sizes: no rule stands here. Assumes nothing.
+-- A table tested in one pass over its sizes, for loading by the number that it is refused by, for Work with the area that it lists. No rule
+-- stands here. Assumes nothing.
 use mathlib.Core.Path.{_≡_}
-use Prim.Native.Nat.{ℕ, min}
-use mathlib.Core.Bool.{cond}
+use Prim.Native.Nat.{ℕ, _-_, _*_, min}
+use mathlib.Core.Bool.{Bool, cond, _&&_}
 use mathlib.Core.List.{List, [], _∷_}
-use lib.Dec.{ltb}
+use lib.Dec.{leb, ltb, eqb}
 use lib.ListN.{length}
-use Rattle.bolttable.specs.Loading.{Size, sizeCounts, sizeInRange, areaFits}
+use Rattle.bolttable.specs.Loading.{Size, sizeCounts, boltDiameters, sizeInRange, areaFits}
+use Rattle.bolttable.specs.declared.BoltArea.{BoltArea}
+use Rattle.bolttable.specs.declared.BoltArea.the-variants.{Listed, Unlisted}
 
 -- a table's twelve places, lent
 pub record Places (diameters areas : List ℕ) : Type 0 where
@@ -24,3 +27,21 @@ sizeNumber last size = cond (sizeInRange size) (cond (ltb last (size .diameter))
 unfoldable pub tableNumber : (last : ℕ) → List Size → ℕ
 tableNumber last [] = byNone
 tableNumber last (size ∷ sizes) = min (sizeNumber last size) (tableNumber (size .diameter) sizes)
+
+-- what the first diameter is held to be above
+abbrev pub belowLeast : ℕ
+belowLeast = boltDiameters .low - 1
+
+-- Whether a size may come after one with the diameter `last`, or after none. Of its range only what the rest doesn't say is tested.
+abbrev pub mayFollow : (last : ℕ) → Size → Bool
+mayFollow last size =
+    (ltb last (size .diameter) && leb (size .diameter) (boltDiameters .high))
+    && (leb 1 (size .area) && leb (100 * size .area) (785 * size .diameter * size .diameter))
+
+-- the area of the size with the diameter, where `found` is that of the sizes before, 0 as long as there was none
+unfoldable pub areaPassed : (diameter last found : ℕ) → List Size → BoltArea
+areaPassed diameter last found [] = cond (eqb found 0) Unlisted (Listed found)
+areaPassed diameter last found (size ∷ sizes) =
+    cond (mayFollow last size)
+    (areaPassed diameter (size .diameter) (cond (eqb diameter (size .diameter)) (size .area) found) sizes)
+    Unlisted

@@ -5,11 +5,15 @@ ghost use Prim.Native.Nat.{_≤_, min};
 ghost use lib.ListN.{length};
 ghost use Rattle.arithmetic.specs.Range.{within};
 ghost use Rattle.bolttable.specs.Loading.{sizeCounts, sizesIn, sizeInRange, tableCheck, loaded, builtIn};
-ghost use Rattle.bolttable.specs.Area.{areaAmong, areaOf, isListed, areaNumber};
-ghost use Rattle.bolttable.specs.Steps.{Places, sizeNumber, tableNumber};
+ghost use Rattle.bolttable.specs.Area.{areaOf, isListed, areaNumber};
+ghost use Rattle.bolttable.specs.Steps.{Places, sizeNumber, tableNumber, belowLeast, mayFollow, areaPassed};
+use arithmetic::chosen;
 
 // The places of a table.
 pub const PLACES: usize = 12;
+
+// Less than any diameter by one or more.
+const BELOW_LEAST: u32 = 5;
 
 // The number of a size or of sizes that aren't refused, above those that they are refused by.
 const BY_NONE: u32 = 255;
@@ -123,11 +127,46 @@ pub fn area_in(count: u32, diameters: &[u32], areas: &[u32], diameter: u32) -> B
     ensures { λ r. ⌜ r
         ≡ areaOf (record { count = count; diameters = now (diameters .entry); areas = now (areas .entry) }) diameter ⌝ }
 {
-    let check = check_table(count, diameters, areas);
-    let TableCheck::Taken = check else {
+    if !is_size_count(count) {
         return BoltArea::Unlisted;
-    };
+    }
     area_among(count as usize, diameters, areas, diameter)
+}
+
+// The area of the size with the diameter. Work asks for it each time, so the sizes are tested and searched in one pass, which doesn't tell
+// by which number a table is refused. A match is kept by a choice and not by a branch: which size it is can't be foreseen.
+fn area_among(count: usize, diameters: &[u32], areas: &[u32], diameter: u32) -> BoltArea
+    requires { ⌜ (count ≤ length (now diameters)) × (count ≤ length (now areas)) ⌝ }
+    ensures { λ r. ⌜ r ≡ areaPassed diameter belowLeast 0 (sizesIn count (now (diameters .entry)) (now (areas .entry))) ⌝ }
+{
+    let mut found = 0;
+    let mut last = BELOW_LEAST;
+    let mut place = 0;
+    while place < count {
+        let next = diameters[place];
+        let area = areas[place];
+        if !may_follow(last, next, area) {
+            return BoltArea::Unlisted;
+        }
+        found = chosen(diameter == next, area, found);
+        last = next;
+        place += 1;
+    }
+    if found == 0 {
+        return BoltArea::Unlisted;
+    }
+    BoltArea::Listed(found)
+}
+
+// Whether a size may come after one with the diameter `last`.
+fn may_follow(last: u32, diameter: u32, area: u32) -> bool
+    ensures { λ r. ⌜ r ≡ mayFollow last (record { diameter = diameter; area = area }) ⌝ }
+{
+    if !((last < diameter) & (diameter <= 64)) {
+        return false;
+    }
+    let across = diameter as u64;
+    (1 <= area) & (100 * (area as u64) <= 785 * across * across)
 }
 
 // Whether a table is taken, or the first number that it is refused by.
@@ -197,19 +236,4 @@ fn is_in_range(diameter: u32, area: u32) -> bool
     ensures { λ r. ⌜ r ≡ sizeInRange (record { diameter = diameter; area = area }) ⌝ }
 {
     ((6 <= diameter) & (diameter <= 64)) & ((1 <= area) & (area <= 40000))
-}
-
-// The first size with the diameter.
-fn area_among(count: usize, diameters: &[u32], areas: &[u32], diameter: u32) -> BoltArea
-    requires { ⌜ (count ≤ length (now diameters)) × (count ≤ length (now areas)) ⌝ }
-    ensures { λ r. ⌜ r ≡ areaAmong diameter (sizesIn count (now (diameters .entry)) (now (areas .entry))) ⌝ }
-{
-    let mut place = 0;
-    while place < count {
-        if diameters[place] == diameter {
-            return BoltArea::Listed(areas[place]);
-        }
-        place += 1;
-    }
-    BoltArea::Unlisted
 }

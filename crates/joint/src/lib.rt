@@ -1,7 +1,6 @@
 // A joint: a beam on a column flange through an end plate, or one on each of the column's two faces. Both share the column and the bolts;
 // what each has of its own is its face. Each comment gives the field's number (rule 2.1) and unit; lengths are in tenths of a millimetre.
 ghost use mathlib.Core.Path.{_≡_};
-ghost use mathlib.Core.Bool.{cond};
 ghost use Rattle.arithmetic.specs.Range.{within, _to_};
 ghost use Rattle.arithmetic.specs.Table.{oneOf};
 ghost use Rattle.joint.specs.Ranges.{rowCounts, grades};
@@ -10,6 +9,7 @@ ghost use Rattle.joint.specs.Faces.{twoFaced, firstRows, firstFace};
 ghost use Rattle.joint.specs.Fields.{fieldCheck, headChecks, gradeChecks, columnChecks, beamChecks};
 ghost use Rattle.joint.specs.Fields.{plateChecks, weldChecks, loadChecks, leverChecks};
 ghost use Rattle.joint.specs.Steps.{foundBy, Adds};
+use arithmetic::chosen;
 use bolttable::BoltArea;
 
 // Fields 5, 8 to 13 and 30.
@@ -346,11 +346,4 @@ fn check_levers(rows: u32, levers: [u32; 8]) -> FieldCheck
         row += 1;
     }
     FieldCheck::AllInRange
-}
-
-// One of two ends of a range.
-fn chosen(test: bool, yes: u32, other: u32) -> u32
-    ensures { λ r. ⌜ r ≡ cond test yes other ⌝ }
-{
-    if test { yes } else { other }
 }
