@@ -12,6 +12,7 @@ use crate::reader::fill;
 use crate::reader::fill_bytes;
 use crate::reader::fill_form;
 use crate::reader::is_end;
+use crate::reader::put_numbers;
 use crate::reader::put_words;
 use jointfile::FileKind;
 use jointfile::Written;
@@ -30,11 +31,7 @@ const WRITE_NUMBERS: usize = JOINT_WORDS + 1;
 // Refusal, next place, and the words of the joint.
 fn read_numbers(refusal: u32, next: usize, words: [u32; JOINT_WORDS]) -> [u64; READ_NUMBERS] {
     let mut numbers = [0u64; READ_NUMBERS];
-    let mut i = 0;
-    while i < JOINT_WORDS {
-        numbers[i + 2] = words[i] as u64;
-        i += 1;
-    }
+    put_numbers(&words, &mut numbers[2..]);
     numbers[0] = refusal as u64;
     numbers[1] = next as u64;
     numbers

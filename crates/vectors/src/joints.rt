@@ -1,4 +1,5 @@
-// Work on a line's joint: `work J = refusal field R`, and with a second face `work J = refusal field R R panel face`.
+// Work on a line's joint, with the bolts built in: `work J = refusal field R`, and with a second face
+// `work J = refusal field R R panel face`.
 use crate::compare::Comparison;
 use crate::compare::compare;
 use crate::reader::Place;
@@ -7,6 +8,7 @@ use crate::reader::after_form;
 use crate::reader::fill_form;
 use crate::reader::is_end;
 use crate::reader::put_words;
+use outcome::Outcome;
 use words::joints::JOINT_WORDS;
 use words::joints::joint_of;
 use words::results::FACE_WORDS;
@@ -21,9 +23,12 @@ pub const OUTCOME_NUMBERS: usize = OUTCOME_WORDS + 3;
 
 pub const SHORT_OUTCOME: usize = FACE_WORDS + 2;
 
-// What a joint's words come to.
+// What a joint's words come to with the bolts built in.
 pub fn worked_numbers(joint: [u32; JOINT_WORDS]) -> [u64; OUTCOME_NUMBERS] {
-    let outcome = work::work(joint_of(&joint));
+    outcome_numbers(work::work(bolttable::built_in(), joint_of(&joint)))
+}
+
+pub fn outcome_numbers(outcome: Outcome) -> [u64; OUTCOME_NUMBERS] {
     let refusal = outcome.refusal;
     let mut numbers = [0u64; OUTCOME_NUMBERS];
     put_outcome(outcome, &mut numbers[2..]);

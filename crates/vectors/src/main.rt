@@ -25,6 +25,7 @@ mod limits;
 mod printed;
 mod progress;
 mod reader;
+mod tables;
 
 // One byte more than there may be, so that an input that is too long is seen to be.
 const INPUT_SPACE: usize = 2097153;
@@ -36,13 +37,22 @@ fn input_space() -> [u8; 2097153]
     [0; 2097153]
 }
 
+// Old and own begin alike.
+fn run_old_or_own(line: &[u8]) -> Comparison {
+    if let Place::At(at) = after_word(line, b"own") {
+        return tables::run_own(line, Place::At(at));
+    }
+    files::run_read(line, FileKind::Old, after_word(line, b"old"))
+}
+
 // Runs the call that a line names; `first` is its first byte. Work and write begin alike.
 fn run_line(first: u8, line: &[u8]) -> Comparison {
     match first {
         b'a' => limits::run(line, after_word(line, b"allocate")),
         b'c' => printed::run_cell(line, after_word(line, b"cell"), true),
         b'e' => printed::run_cell(line, after_word(line, b"exception"), false),
-        b'o' => files::run_read(line, FileKind::Old, after_word(line, b"old")),
+        b'l' => tables::run_load(line, after_word(line, b"load")),
+        b'o' => run_old_or_own(line),
         b'r' => files::run_read(line, FileKind::New, after_word(line, b"read")),
         b's' => printed::run_shear(line, after_word(line, b"shear")),
         _ => {

@@ -205,6 +205,18 @@ pub fn put_words(numbers: &[u64], words: &mut [u32]) -> bool {
     true
 }
 
+// Puts words of 32 bits into the front of `numbers`, as many as have a place.
+pub fn put_numbers(words: &[u32], numbers: &mut [u64]) {
+    let mut i = 0;
+    while i < words.len() {
+        if numbers.len() <= i {
+            return;
+        }
+        numbers[i] = words[i] as u64;
+        i += 1;
+    }
+}
+
 // ---- bytes
 
 // How many bytes there were, with the place after them, or that they can't be read.
