@@ -3,8 +3,11 @@
 use Prim.Native.Nat.{ℕ}
 use mathlib.Core.Bool.{cond}
 use mathlib.Core.List.{List, [], _∷_, _++_}
-use lib.ListN.{take}
+use lib.ListN.{take, replicate}
 use lib.IntN.{ℤ, pos, negℤ}
+use Rattle.bolttable.specs.Area.{areaOf}
+use Rattle.bolttable.specs.Loading.{loaded, builtIn}
+use Rattle.bolttable.specs.declared.BoltTable.{BoltTable}
 use Rattle.joint.specs.declared.Joint.{Joint}
 use Rattle.joint.specs.declared.Column.{Column}
 use Rattle.joint.specs.declared.Face.{Face}
@@ -19,7 +22,7 @@ use Rattle.jointfile.specs.declared.FileKind.the-variants.{Old, New}
 use Rattle.sharing.specs.Sharing.{moment}
 use Rattle.allocation.specs.Allocation.{allocated}
 use Rattle.strength.specs.Steel.{steelStrength}
-use Rattle.strength.specs.Bolt.{boltStrengths}
+use Rattle.strength.specs.declared.BoltStrengths.{BoltStrengths}
 use Rattle.strength.specs.Thickness.{bothTooThick}
 use Rattle.strength.specs.declared.SteelStrengths.{SteelStrengths}
 use Rattle.stubs.specs.Bending.{effectiveEdge, effectiveLength, bending}
@@ -27,6 +30,7 @@ use Rattle.stubs.specs.Web.{webTension}
 use Rattle.compression.specs.Compression.{webBuckling, reducedNearEnd}
 use Rattle.outcome.specs.declared.PanelVerdict.{PanelVerdict}
 use Rattle.outcome.specs.declared.PanelVerdict.the-variants.{NotAsked, Passes, Fails}
+use Rattle.connection.specs.OneFace.{boltOf}
 use Rattle.work.specs.Work.{worked}
 use Rattle.printer.specs.Sheet.{sheetOf}
 
@@ -62,12 +66,17 @@ checked-C : Checked
 unfolding allocateAnswer
 checked-C = record { given = allocateAnswer 2 (300 ∷ 200 ∷ 300 ∷ []); stated = 0 ∷ 200 ∷ 0 ∷ 0 ∷ 0 ∷ 0 ∷ 0 ∷ 0 ∷ 0 ∷ [] }
 
+-- bolts of class 88, M24, by the table built in
+bolts-M24 : BoltStrengths
+bolts-M24 = boltOf (record { class = 88; diameter = 24 }) (areaOf builtIn 24)
+
 -- D: the bolts are class 88, M24, and Tc is 205: yc and W come of the definitions
 yc-D : ℕ
 yc-D = steelStrength 275 205
 
 W-D : ℕ
-W-D = boltStrengths (record { class = 88; diameter = 24 }) .«pair_tension»
+unfolding bolts-M24
+W-D = bolts-M24 .«pair_tension»
 
 -- column flange bending of so many rows with a rise
 flange : (rows rise : ℕ) → ℕ
@@ -112,9 +121,8 @@ steel-G : (Tc tp : ℕ) → SteelStrengths
 steel-G Tc tp = record { column = steelStrength 275 Tc; beam = 0; plate = steelStrength 275 tp }
 
 thick : (Tc tp : ℕ) → ℕ
-unfolding column-G plate-G steel-G
-thick Tc tp =
-    cond (bothTooThick (column-G Tc) (plate-G tp) (steel-G Tc tp) (boltStrengths (record { class = 88; diameter = 24 }))) 1 0
+unfolding column-G plate-G steel-G bolts-M24
+thick Tc tp = cond (bothTooThick (column-G Tc) (plate-G tp) (steel-G Tc tp) bolts-M24) 1 0
 
 -- Tc 219 and 220 with a plate that is too thick, and with one that isn't; yc
 checked-G : Checked
@@ -162,14 +170,19 @@ column-I = record {
   «end_distance» = 15000;
 }
 
-joint-I : ℤ → Joint
+-- with bolts of a diameter
+joint-I-bolts : (diameter : ℕ) → ℤ → Joint
 unfolding face-I column-I
-joint-I axial = record {
+joint-I-bolts diameter axial = record {
   column = column-I;
-  bolts = record { class = 88; diameter = 20 };
+  bolts = record { class = 88; diameter = diameter };
   face = face-I 1 axial;
   other = secondFaceOf (noPart .fields) (noPart .levers);
 }
+
+joint-I : ℤ → Joint
+unfolding joint-I-bolts
+joint-I axial = joint-I-bolts 20 axial
 
 -- I's file of either kind
 file-I : FileKind → List ℕ
@@ -187,7 +200,7 @@ checked-I = record { given = sheetOf (file-I New); stated = line-I [] }
 
 -- N at the governing force and a newton above it: refusal, then the first row's force
 pushed : ℤ → List ℕ
-pushed axial = let outcome = worked (joint-I axial) in outcome .refusal .number ∷ take 1 (outcome .result .forces)
+pushed axial = let outcome = worked builtIn (joint-I axial) in outcome .refusal .number ∷ take 1 (outcome .result .forces)
 
 checked-I-pushed : Checked
 unfolding joint-I pushed
@@ -235,7 +248,7 @@ panel-number Fails = 2
 panel-I : (first second : ℤ) → List ℕ
 unfolding both-I panel-number
 panel-I first second =
-    let outcome = worked (both-I first second) in
+    let outcome = worked builtIn (both-I first second) in
     outcome .refusal .number ∷ outcome .refusal .face ∷ panel-number (outcome .panel) ∷ []
 
 -- panel shear is 836827: tension of that much on either face, and of a newton more; and N above the governing force on either
@@ -247,9 +260,47 @@ checked-I-panel = record {
   stated = (0 ∷ 0 ∷ 1 ∷ []) ++ (0 ∷ 0 ∷ 2 ∷ []) ++ (0 ∷ 0 ∷ 2 ∷ []) ++ (15 ∷ 1 ∷ 0 ∷ []) ++ (15 ∷ 2 ∷ 0 ∷ []);
 }
 
+-- a bolt table of two sizes
+two-sizes : (first firstArea second secondArea : ℕ) → BoltTable
+two-sizes first firstArea second secondArea = record {
+  count = 2;
+  diameters = first ∷ second ∷ replicate 10 0;
+  areas = firstArea ∷ secondArea ∷ replicate 10 0;
+}
+
+-- what loading one answers after the table built in: the refusal, and the count and first size of the table that is then in force
+loading : BoltTable → List ℕ
+loading table = let after = loaded builtIn table in after .refusal ∷ after .table .count ∷ take 1 (after .table .diameters) ++ take 1 (after .table .areas)
+
+-- taken at the ends of every range; a number out of range though the diameters fall; equal diameters though an area is too large; an area
+-- one too large
+checked-loading : Checked
+unfolding two-sizes loading
+checked-loading = record {
+  given = loading (two-sizes 6 1 64 32153) ++ loading (two-sizes 64 32154 5 1) ++ loading (two-sizes 22 3800 22 3801)
+      ++ loading (two-sizes 22 3799 24 4522);
+  stated = (0 ∷ 2 ∷ 6 ∷ 1 ∷ []) ++ (16 ∷ 5 ∷ 12 ∷ 843 ∷ []) ++ (17 ∷ 5 ∷ 12 ∷ 843 ∷ []) ++ (18 ∷ 5 ∷ 12 ∷ 843 ∷ []);
+}
+
+-- I with a bolt table and a diameter: refusal, field, and the first row's force
+own-I : BoltTable → (diameter : ℕ) → List ℕ
+unfolding joint-I-bolts
+own-I table diameter =
+    let outcome = worked table (joint-I-bolts diameter (pos 0)) in
+    outcome .refusal .number ∷ outcome .refusal .field ∷ take 1 (outcome .result .forces)
+
+-- M20 as built in, M22, a diameter that the table doesn't have, and M22 of a table that loading refuses
+checked-I-own : Checked
+unfolding two-sizes own-I
+checked-I-own = record {
+  given = own-I (two-sizes 20 2450 22 3030) 20 ++ own-I (two-sizes 20 2450 22 3030) 22 ++ own-I (two-sizes 20 2450 22 3030) 24
+      ++ own-I (two-sizes 22 3030 22 3030) 22;
+  stated = (0 ∷ 0 ∷ 219345 ∷ []) ++ (0 ∷ 0 ∷ 255434 ∷ []) ++ (10 ∷ 4 ∷ 0 ∷ []) ++ (10 ∷ 4 ∷ 0 ∷ []);
+}
+
 unfoldable pub table : List Checked
 unfolding checked-A checked-B checked-C checked-D checked-E checked-F checked-G checked-H checked-I checked-I-pushed checked-I-file
-    checked-I-both checked-I-panel
+    checked-I-both checked-I-panel checked-loading checked-I-own
 table =
     checked-A ∷ checked-B ∷ checked-C ∷ checked-D ∷ checked-E ∷ checked-F ∷ checked-G ∷ checked-H
-    ∷ checked-I ∷ checked-I-pushed ∷ checked-I-file ∷ checked-I-both ∷ checked-I-panel ∷ []
+    ∷ checked-I ∷ checked-I-pushed ∷ checked-I-file ∷ checked-I-both ∷ checked-I-panel ∷ checked-loading ∷ checked-I-own ∷ []

@@ -157,7 +157,14 @@ fn put_reading(output: &mut [u8], at: usize, number: u64, reading: Reading) -> u
     if reading.refusal == 0 {
         let joint = reading.joint;
         let rows = first_rows(joint.face.rows);
-        return put_outcome(output, at, number, rows, joint.other.rows, work_built_in(joint));
+        return put_outcome(
+            output,
+            at,
+            number,
+            rows,
+            joint.other.rows,
+            work_built_in(joint),
+        );
     }
     put_read_refusal(output, at, number, reading.refusal)
 }

@@ -8,10 +8,10 @@ ghost use Rattle.bolttable.specs.Loading.{sizeCounts};
 ghost use Rattle.buffers.specs.Put.{atFront};
 ghost use Rattle.words.specs.Words.{wordsFrom};
 ghost use Rattle.words.specs.Tables.{tableWordCount, tableOfWords, wordsOfTable};
+use crate::put::put_u32;
 use bolttable::BoltArea;
 use bolttable::BoltTable;
 use bolttable::PLACES;
-use crate::put::put_u32;
 
 // How many words a table is, and where its areas begin.
 pub const TABLE_WORDS: usize = AREAS + PLACES;

@@ -79,13 +79,7 @@ fn refused(number: u32, field: u32, face: u32) -> Outcome
 }
 
 // Both faces, the first before the second. Panel shear counts in neither's cap.
-fn work_faces(
-    column: Column,
-    bolts: Bolts,
-    area: BoltArea,
-    first: Face,
-    second: Face,
-) -> Outcome
+fn work_faces(column: Column, bolts: Bolts, area: BoltArea, first: Face, second: Face) -> Outcome
     requires { ⌜ AreaInRange (bolts .diameter) area ⌝ }
     ensures equals { λ r. ⌜ r ≡ workedFaces column bolts area first second ⌝ }
     ensures demand { λ r. ⌜ (r .refusal .number ≡ 0 → FacesDemand3 column bolts area first second r) ⌝ }
