@@ -1,23 +1,21 @@
 -- What a table lists: by the one pass that finds it, and how large it can be. By induction over the sizes. Assumes nothing.
-use mathlib.Core.Path.{_≡_, refl, sym, ap, subst, _∙_}
+use mathlib.Core.Path.{_≡_, refl}
 use mathlib.Core.Bool.{Bool, true, false, cond}
 use mathlib.Core.List.{List, [], _∷_}
-use Prim.Native.Nat.{ℕ, _+_, _*_, _/_, _≤_, _<_, zero-le}
+use Prim.Native.Nat.{ℕ, _≤_, zero-le}
 use native.Mathlib.Nat.{le-trans}
 use native.Mathlib.Omega.{arith}
-use borrow.Author.Tests.{eq-eqb, ne-eqb, eqb-true}
+use borrow.Author.Tests.{eqb-true}
 use lib.Dec.{T, eqb, leb→le}
-use lib.ListN.{length, getD, drop}
 use mir.Facts.{and-yes}
 use Rattle.arithmetic.specs.Range.{Within, within}
 use Rattle.arithmetic.proofs.Bounds.{exactly, atMost, _⊗_, _⊘_, within-yes}
 use Rattle.arithmetic.proofs.Checks.{all-hold}
-use Rattle.bolttable.specs.Loading.{Size, boltDiameters, boltAreas, sizeCounts, sizesIn, countedSizes, eachSize, sizeInRange, diametersRise, areaFits}
-use Rattle.bolttable.specs.Loading.{tableRefusals, tableCheck}
-use Rattle.bolttable.specs.Area.{ifTaken, areaAmong, areaOf}
+use Rattle.bolttable.specs.Loading.{Size, boltDiameters, boltAreas, sizeCounts, countedSizes, eachSize, sizeInRange}
+use Rattle.bolttable.specs.Loading.{diametersRise, areaFits, tableRefusals, tableCheck}
+use Rattle.bolttable.specs.Area.{sizesBy, areaAmong, areaOf}
 use Rattle.bolttable.specs.InRange.{AreaInRange, mostArea}
 use Rattle.bolttable.specs.declared.BoltTable.{BoltTable}
-use Rattle.bolttable.specs.declared.BoltArea.{BoltArea}
 use Rattle.bolttable.specs.declared.BoltArea.the-variants.{Listed, Unlisted}
 use Rattle.bolttable.specs.declared.TableCheck.{TableCheck}
 use Rattle.bolttable.specs.declared.TableCheck.the-variants.{Taken, Refused}
@@ -58,10 +56,16 @@ module _ (table : BoltTable) (e : tableCheck table ≡ Taken) where
 
 -- ---- how large what it lists can be
 
+-- what the test of a size's numbers says
+pub size-ranges : (size : Size) → T (sizeInRange size) → Within boltDiameters (size .diameter) × Within boltAreas (size .area)
+size-ranges size own =
+    let both = and-yes (within boltDiameters (size .diameter)) (within boltAreas (size .area)) own in
+    (within-yes boltDiameters (size .diameter) (both .0), within-yes boltAreas (size .area) (both .1))
+
 area-small : (size : Size) → T (sizeInRange size) → T (areaFits size) → size .area ≤ mostArea
-area-small size in-range fits =
-    let diameter = within-yes boltDiameters (size .diameter) (and-yes (within boltDiameters (size .diameter)) (within boltAreas (size .area)) in-range .0) in
-    le-trans (leb→le _ _ fits) ((exactly 785 ⊗ diameter ⊗ diameter ⊘ 100) .high)
+area-small size own fit =
+    let diameter = size-ranges size own .0 in
+    le-trans (leb→le _ _ fit) ((exactly 785 ⊗ diameter ⊗ diameter ⊘ 100) .high)
 
 among-in-range : (diameter : ℕ) (sizes : List Size) → T (eachSize sizeInRange sizes) → T (eachSize areaFits sizes)
     → AreaInRange diameter (areaAmong diameter sizes)
@@ -76,9 +80,7 @@ among-in-range diameter (size ∷ sizes) in-range fits =
         → AreaInRange diameter (areaAmong diameter sizes)
         → AreaInRange diameter (cond same (Listed (size .area)) (areaAmong diameter sizes))
     by-test true e own fit rest = record {
-      listed = λ yes.
-          rw (eqb-true diameter (size .diameter) e)
-          (within-yes boltDiameters (size .diameter) (and-yes (within boltDiameters (size .diameter)) (within boltAreas (size .area)) own .0));
+      listed = λ yes. rw (eqb-true diameter (size .diameter) e) (size-ranges size own .0);
       most = atMost (area-small size own fit);
     }
     by-test false e own fit rest = rest
@@ -89,6 +91,6 @@ unfolding areaOf areaAmong
 area-in-range table diameter = by-check (tableCheck table) refl
   where
     by-check : (check : TableCheck) → tableCheck table ≡ check
-        → AreaInRange diameter (areaAmong diameter (ifTaken check (countedSizes table)))
+        → AreaInRange diameter (areaAmong diameter (sizesBy check (countedSizes table)))
     by-check Taken e = among-in-range diameter (countedSizes table) (counted-in-range table e .1) (areas-fit table e)
     by-check (Refused number) e = record { listed = λ never. absurd never; most = atMost zero-le }

@@ -3,16 +3,16 @@
 use mathlib.Core.Path.{_≡_, refl, sym, ap, subst, _∙_}
 use mathlib.Core.Bool.{Bool, true, false, cond, _&&_}
 use mathlib.Core.List.{List, [], _∷_}
-use Prim.Native.Nat.{ℕ, zero, suc, _+_, _*_, _/_, _≤_, _<_}
-use native.Mathlib.Nat.{mul-comm, le-div-iff-mul-le}
+use Prim.Native.Nat.{ℕ, _+_, _*_, _≤_, _<_}
+use native.Mathlib.Nat.{le-div-iff-mul-le}
 use native.Mathlib.Omega.{arith}
-use borrow.Author.Tests.{eq-eqb, ne-eqb, eqb-true, eqb-false, ltb-true, leb-true, lt-ltb, le-leb}
+use borrow.Author.Tests.{ne-eqb, eqb-true}
 use lib.Dec.{T, eqb, leb, ltb, leb→le, le→leb, ltb→lt, lt→ltb}
 use lib.ListN.{length, getD, drop}
 use mir.Facts.{and-yes, yes-and}
 use Rattle.arithmetic.specs.Checks.{firstFailing}
 use Rattle.arithmetic.specs.Range.{Within, within}
-use Rattle.arithmetic.proofs.Bounds.{exactly, _⊗_, within-yes}
+use Rattle.arithmetic.proofs.Bounds.{exactly, _⊗_}
 use Rattle.bolttable.specs.Loading.{Size, boltDiameters, boltAreas, sizeCounts, sizesIn, countedSizes, eachSize, sizeInRange}
 use Rattle.bolttable.specs.Loading.{riseAbove, diametersRise, areaFits, tableRefusals, tableCheck}
 use Rattle.bolttable.specs.Area.{areaAmong, areaOf}
@@ -22,7 +22,7 @@ use Rattle.bolttable.specs.declared.BoltArea.{BoltArea}
 use Rattle.bolttable.specs.declared.BoltArea.the-variants.{Listed, Unlisted}
 use Rattle.bolttable.specs.declared.TableCheck.{TableCheck}
 use Rattle.bolttable.specs.declared.TableCheck.the-variants.{Taken, Refused}
-use Rattle.bolttable.proofs.Areas.{if-refused, if-taken, counted-in-range, areas-fit, diameters-rise}
+use Rattle.bolttable.proofs.Areas.{size-ranges, if-refused, if-taken, counted-in-range, areas-fit, diameters-rise}
 use Rattle.bolttable.proofs.Sizes.{sizeAt, sizes-from, sizes-end}
 
 -- ---- a size that may follow
@@ -69,14 +69,15 @@ fits last size f =
     le→leb _ _ (le-div-iff-mul-le {k = 100} (omega arith) .1 most)
 
 -- and a size in range whose area fits may follow any that it is above
-may-follow : (last : ℕ) (size : Size) → T (sizeInRange size) → T (ltb last (size .diameter)) → T (areaFits size) → T (mayFollow last size)
+may-follow : (last : ℕ) (size : Size) → T (sizeInRange size) → T (ltb last (size .diameter)) → T (areaFits size)
+    → T (mayFollow last size)
 may-follow last size own rises fit =
-    let ranges = and-yes (within boltDiameters (size .diameter)) (within boltAreas (size .area)) own in
+    let ranges = size-ranges size own in
     may last size
     (record {
       above = ltb→lt _ _ rises;
-      diameter-most = within-yes boltDiameters (size .diameter) (ranges .0) .high;
-      some-area = within-yes boltAreas (size .area) (ranges .1) .low;
+      diameter-most = ranges .0 .high;
+      some-area = ranges .1 .low;
       area-most = omega (arith, le-div-iff-mul-le {k = 100} (omega arith) .0 (leb→le (size .area) _ fit));
     })
 
@@ -171,7 +172,7 @@ unfolding riseAbove
 from-first [] own rises = tt
 from-first (size ∷ sizes) own rises =
     let ranges = and-yes (sizeInRange size) (eachSize sizeInRange sizes) own in
-    let low = within-yes boltDiameters (size .diameter) (and-yes (within boltDiameters (size .diameter)) (within boltAreas (size .area)) (ranges .0) .0) .low in
+    let low = size-ranges size (ranges .0) .0 .low in
     yes-and (ltb belowLeast (size .diameter)) (riseAbove (size .diameter) sizes) (lt→ltb belowLeast (size .diameter) (omega arith)) rises
 
 to-first : (sizes : List Size) → T (riseAbove belowLeast sizes) → T (diametersRise sizes)

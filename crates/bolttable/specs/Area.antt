@@ -11,12 +11,12 @@ use Rattle.bolttable.specs.declared.TableCheck.{TableCheck}
 use Rattle.bolttable.specs.declared.TableCheck.the-variants.{Taken, Refused}
 
 -- a table that loading would refuse has no sizes
-abbrev pub ifTaken : TableCheck → List Size → List Size
-ifTaken Taken sizes = sizes
-ifTaken (Refused number) sizes = []
+abbrev pub sizesBy : TableCheck → List Size → List Size
+sizesBy Taken sizes = sizes
+sizesBy (Refused number) sizes = []
 
 abbrev pub sizesOf : BoltTable → List Size
-sizesOf table = ifTaken (tableCheck table) (countedSizes table)
+sizesOf table = sizesBy (tableCheck table) (countedSizes table)
 
 -- the area of the size that has a diameter
 unfoldable pub areaAmong : (diameter : ℕ) → List Size → BoltArea

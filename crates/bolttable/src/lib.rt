@@ -12,7 +12,7 @@ use arithmetic::chosen;
 // The places of a table.
 pub const PLACES: usize = 12;
 
-// Less than any diameter by one or more.
+// One less than the least diameter.
 const BELOW_LEAST: u32 = 5;
 
 // The number of a size or of sizes that aren't refused, above those that they are refused by.
@@ -59,7 +59,7 @@ pub fn built_in() -> BoltTable
     }
 }
 
-// Loads a table: it is then in force, and where it isn't taken the one before is.
+// Loads a table: it is then in force, or, where it isn't taken, the one before.
 pub fn load(before: BoltTable, table: BoltTable) -> Loading
     ensures { λ r. ⌜ r ≡ loaded before table ⌝ }
 {
@@ -103,7 +103,8 @@ pub fn area_number(area: BoltArea) -> u32
     }
 }
 
-// An array's places are known where it is a parameter, and not where it is a field: so both have a function between.
+// How many places an array has is known where it is a parameter, and not where it is a field: so `load` and `area_of` each have a function
+// between them and the places that they lend.
 fn check_arrays(count: u32, diameters: [u32; PLACES], areas: [u32; PLACES]) -> TableCheck
     ensures { λ r. ⌜ r ≡ tableCheck (record { count = count; diameters = diameters; areas = areas }) ⌝ }
 {

@@ -42,7 +42,8 @@ use Rattle.printer.specs.Sheet.{linesWithin, sheetLines}
 use Rattle.checked.specs.Checked.{Checked, table}
 
 pub all-agree : map (λ (c : Checked). c .given) table ≡ map (λ (c : Checked). c .stated) table
-unfolding table firstFailing search-from sizesIn riseAbove tableRefusals tableCheck loaded builtIn areaAmong areaOf leverChecks fixedChecks fieldChecks fieldCheck twoFaced firstRows firstFace eightPlaces
+unfolding table firstFailing search-from sizesIn riseAbove tableRefusals tableCheck loaded builtIn areaAmong areaOf
+    leverChecks fixedChecks fieldChecks fieldCheck twoFaced firstRows firstFace eightPlaces
     groups readGroups readNumbers storedAll ownOf jointOf axialOf storedAxial fieldsOf readOthers readPart readSecond readJoint partOf file
     groupsAbove groupCount listed withCap leastUpTo lowered allowance nextForce forcesDownTo shared moment newtonMetres
     noneAbove allocateRefusals allocated

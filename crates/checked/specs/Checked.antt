@@ -270,7 +270,10 @@ two-sizes first firstArea second secondArea = record {
 
 -- what loading one answers after the table built in: the refusal, and the count and first size of the table that is then in force
 loading : BoltTable → List ℕ
-loading table = let after = loaded builtIn table in after .refusal ∷ after .table .count ∷ take 1 (after .table .diameters) ++ take 1 (after .table .areas)
+loading table =
+    let answer = loaded builtIn table in
+    let after = answer .table in
+    answer .refusal ∷ after .count ∷ take 1 (after .diameters) ++ take 1 (after .areas)
 
 -- taken at the ends of every range; a number out of range though the diameters fall; equal diameters though an area is too large; an area
 -- one too large

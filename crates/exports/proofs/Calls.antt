@@ -192,7 +192,8 @@ if-small face outcome next few small after = go (eqb (outcome .number) 0)
     go true = after (outcome .result)
     go false = record { number = small .number; field = small .field; face = few }
 
-work-small : (area : BoltArea) (joint : Joint) → length (joint .face .levers) ≡ 8 → length (joint .other .levers) ≡ 8 → Small (workedWith area joint .refusal)
+work-small : (area : BoltArea) (joint : Joint) → length (joint .face .levers) ≡ 8 → length (joint .other .levers) ≡ 8
+    → Small (workedWith area joint .refusal)
 unfolding workedWith workedFaces firstFace
 work-small area joint eight eight′ = go (twoFaced (joint .face .rows))
   where
@@ -341,7 +342,8 @@ demand-words words table joint outcome eight eight′ demand =
           rw (first-words words outcome) (of-words false table joint first (outcome .result) rest eight (demand .two-faces two .of-first));
       second-of-two = λ two.
           rw (second-words words outcome eight)
-          (of-words false table joint (joint .other) (outcome .other) (after-second words outcome) eight′ (demand .two-faces two .of-second));
+          (of-words false table joint (joint .other) (outcome .other) (after-second words outcome) eight′
+          (demand .two-faces two .of-second));
     }
 
 -- the words of a joint with one face

@@ -4,9 +4,9 @@
 // old one, and any other number the new one.
 //
 // An answer tells all of a refusal in its parts: its number in the lowest 8 bits, the field, for 10, times 256, and the face, of a joint
-// that has two, times 65536. 0 is no refusal; 100 says that a lent slice is too short to hold a joint, a table, a result or eight
-// forces, and 101, of the sheet alone, that the output has no room for all lines. Whatever the answer is but 0, every slice and place is as it was. The
-// sheet's refusals are its lines: they are printed, `R 4` too, and answered 0.
+// that has two, times 65536. 0 is no refusal; 100 says that a lent slice is too short to hold a joint, a table, a result or eight forces,
+// and 101, of the sheet alone, that the output has no room for all lines. Whatever the answer is but 0, every slice and place is as it was.
+// The sheet's refusals are its lines: they are printed, `R 4` too, and answered 0.
 ghost use mathlib.Core.Path.{_≡_};
 ghost use mathlib.Core.Bool.{false};
 ghost use lib.ListN.{getD, take};

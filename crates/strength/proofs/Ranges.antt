@@ -10,7 +10,6 @@ use Rattle.arithmetic.specs.Range.{Range, Within, within, _to_}
 use Rattle.arithmetic.specs.Table.{oneOf, lookup, upTo, any}
 use Rattle.arithmetic.proofs.Bounds.{exactly, _⊗_, _⊘_, within-yes}
 use Rattle.arithmetic.proofs.Table.{each, of-found, of-any}
-use Rattle.bolttable.specs.Loading.{boltDiameters}
 use Rattle.bolttable.specs.Area.{areaNumber}
 use Rattle.bolttable.specs.InRange.{AreaInRange}
 use Rattle.bolttable.specs.declared.BoltArea.{BoltArea}

@@ -1,5 +1,4 @@
-// Work on a line's joint, with the bolts built in: `work J = refusal field R`, and with a second face
-// `work J = refusal field R R panel face`.
+// Work on a line's joint: `work J = refusal field R`, and with a second face `work J = refusal field R R panel face`.
 use crate::compare::Comparison;
 use crate::compare::compare;
 use crate::reader::Place;
@@ -8,7 +7,7 @@ use crate::reader::after_form;
 use crate::reader::fill_form;
 use crate::reader::is_end;
 use crate::reader::put_words;
-use outcome::Outcome;
+use bolttable::BoltTable;
 use words::joints::JOINT_WORDS;
 use words::joints::joint_of;
 use words::results::FACE_WORDS;
@@ -23,12 +22,9 @@ pub const OUTCOME_NUMBERS: usize = OUTCOME_WORDS + 3;
 
 pub const SHORT_OUTCOME: usize = FACE_WORDS + 2;
 
-// What a joint's words come to with the bolts built in.
-pub fn worked_numbers(joint: [u32; JOINT_WORDS]) -> [u64; OUTCOME_NUMBERS] {
-    outcome_numbers(work::work(bolttable::built_in(), joint_of(&joint)))
-}
-
-pub fn outcome_numbers(outcome: Outcome) -> [u64; OUTCOME_NUMBERS] {
+// What a joint's words come to with a bolt table in force.
+pub fn worked_numbers(table: BoltTable, joint: [u32; JOINT_WORDS]) -> [u64; OUTCOME_NUMBERS] {
+    let outcome = work::work(table, joint_of(&joint));
     let refusal = outcome.refusal;
     let mut numbers = [0u64; OUTCOME_NUMBERS];
     put_outcome(outcome, &mut numbers[2..]);
@@ -38,7 +34,8 @@ pub fn outcome_numbers(outcome: Outcome) -> [u64; OUTCOME_NUMBERS] {
     numbers
 }
 
-pub fn run(line: &[u8], place: Place) -> Comparison {
+// With the bolt table that is in force.
+pub fn run(table: BoltTable, line: &[u8], place: Place) -> Comparison {
     let mut given = [0u64; JOINT_WORDS];
     let mut should = [0u64; OUTCOME_NUMBERS];
     let form = fill_form(line, place, SHORT_JOINT, &mut given);
@@ -48,6 +45,6 @@ pub fn run(line: &[u8], place: Place) -> Comparison {
     if !(is_end(line, after_form(answer)) & put_words(&given, &mut joint)) {
         return Comparison::Unreadable;
     }
-    let are = worked_numbers(joint);
+    let are = worked_numbers(table, joint);
     compare(&are, &should)
 }

@@ -59,7 +59,7 @@ fn run_line(first: u8, line: &[u8]) -> Comparison {
             if let Place::At(at) = after_word(line, b"write") {
                 return files::run_write(line, Place::At(at));
             }
-            joints::run(line, after_word(line, b"work"))
+            joints::run(bolttable::built_in(), line, after_word(line, b"work"))
         }
     }
 }

@@ -12,6 +12,7 @@ use crate::joints::worked_numbers;
 use crate::reader::Place;
 use crate::reader::fill_sides;
 use crate::reader::put_words;
+use bolttable::built_in;
 use words::joints::JOINT_WORDS;
 
 // The numbers that a cell and a shear capacity are given by: their own, and the joint's words in the short form.
@@ -65,7 +66,7 @@ pub fn run_cell(line: &[u8], place: Place, near: bool) -> Comparison {
     if !(put_words(&given, &mut cell) & put_words(&given[5..], &mut joint[..SHORT_JOINT])) {
         return Comparison::Unreadable;
     }
-    let are = worked_numbers(joint);
+    let are = worked_numbers(built_in(), joint);
     let found = compare(&are[..SHORT_OUTCOME], &should);
     let Comparison::Same = found else {
         return found;
@@ -77,7 +78,7 @@ pub fn run_cell(line: &[u8], place: Place, near: bool) -> Comparison {
 fn bolts_under(joint: [u32; JOINT_WORDS], shear: u32) -> u64 {
     let mut loaded = joint;
     loaded[SHEAR] = shear;
-    let numbers = worked_numbers(loaded);
+    let numbers = worked_numbers(built_in(), loaded);
     numbers[BOLTS]
 }
 

@@ -87,13 +87,14 @@ not-both e e′ = let never : _≡_ {A = ℕ} 0 1 = cc in absurd (omega arith)
 -- ---- demand 3 by the call for one face, and by that for both
 
 module _ (area : BoltArea) (joint : Joint) (outcome : Outcome) where
-  pub demand-alone : twoFaced (joint .face .rows) ≡ false → Demand3For true (joint .column) (joint .bolts) area (joint .face) (outcome .result)
+  pub demand-alone : twoFaced (joint .face .rows) ≡ false
+      → Demand3For true (joint .column) (joint .bolts) area (joint .face) (outcome .result)
       → Demand3With area joint outcome
   demand-alone alone demand =
       record {
         one-face = λ same.
-            subst (λ (face : Face). Demand3For true (joint .column) (joint .bolts) area face (outcome .result)) (first-alone (joint .face) alone)
-            demand;
+            subst (λ (face : Face). Demand3For true (joint .column) (joint .bolts) area face (outcome .result))
+            (first-alone (joint .face) alone) demand;
         two-faces = λ two. absurd (not-both two alone);
       }
 

@@ -1,15 +1,13 @@
 -- `area_among` meets its contract. The invariant: the sizes left, with what was found before them, come to what all of them do.
 -- Assumes nothing.
 use mathlib.Core.Path.{_≡_, refl, sym, ap, _∙_}
-use mathlib.Core.Bool.{true}
 use Prim.Native.Nat.{ℕ, _+_, _-_}
 use native.Mathlib.Omega.{arith}
 use borrow.Author.Needs.{needs}
 use borrow.Author.Tests.{not-true, not-false, eq-eqb, ne-eqb}
 use lib.ListN.{getD}
 use Rattle.bolttable.specs.Loading.{sizesIn}
-use Rattle.bolttable.specs.Steps.{belowLeast, mayFollow, areaPassed}
-use Rattle.bolttable.proofs.Sizes.{sizeAt}
+use Rattle.bolttable.specs.Steps.{belowLeast, areaPassed}
 use Rattle.bolttable.proofs.Passes.{left, stops, goes-on, none-left}
 use Rattle.bolttable.proofs.area_among.Statement.{statement}
 use Rattle.bolttable.proofs.area_among.Tie as tie
@@ -73,7 +71,8 @@ loop-again c =
     let s = start t in
     let a = s .args in
     let next = getD (a .diameters .now) (t .loop .place) 0 in
-    ap (λ (found : ℕ). left (a .diameter) (a .count) (a .diameters .now) (a .areas .now) next found (t .loop .place + 1)) (c .chosen .ensures)
+    ap (λ (found : ℕ). left (a .diameter) (a .count) (a .diameters .now) (a .areas .now) next found (t .loop .place + 1))
+    (c .chosen .ensures)
     ∙ sym (goes-on _ _ _ _ (s .pre .0) (s .pre .1) _ _ _ (tested .before .before .before .loop-test .taken)
     (sym (tested .may-follow .ensures) ∙ not-false _ (c .before .if1 .left)))
     ∙ t .loop .inv

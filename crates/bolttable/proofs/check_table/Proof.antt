@@ -37,13 +37,15 @@ returns-2 : tie.Need-returns-2
 unfolding checkBy
 returns-2 c =
     let one = c .before .before in
-    sym (rw (eq-eqb (c .before .table-number .result) 255 (c .if2 .taken))) ∙ ap checkBy (c .before .table-number .ensures) ∙ by-sizes _ _ _ (counted one)
+    sym (rw (eq-eqb (c .before .table-number .result) 255 (c .if2 .taken)))
+    ∙ ap checkBy (c .before .table-number .ensures) ∙ by-sizes _ _ _ (counted one)
 
 returns-3 : tie.Need-returns-3
 unfolding checkBy
 returns-3 c =
     let one = c .before .before in
-    sym (rw (ne-eqb (c .before .table-number .result) 255 (c .if2 .left))) ∙ ap checkBy (c .before .table-number .ensures) ∙ by-sizes _ _ _ (counted one)
+    sym (rw (ne-eqb (c .before .table-number .result) 255 (c .if2 .left)))
+    ∙ ap checkBy (c .before .table-number .ensures) ∙ by-sizes _ _ _ (counted one)
 
 pub check-table-spec : {M : Type 1} → statement M
 check-table-spec =

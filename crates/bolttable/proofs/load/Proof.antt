@@ -1,8 +1,7 @@
 -- `load` meets its contract: which table is then in force goes by the check. Assumes nothing.
-use mathlib.Core.Path.{_≡_, sym, ap, _∙_}
+use mathlib.Core.Path.{sym, _∙_}
 use borrow.Author.Needs.{needs}
-use Rattle.bolttable.specs.Loading.{loadedBy, loaded}
-use Rattle.bolttable.specs.declared.TableCheck.{TableCheck}
+use Rattle.bolttable.specs.Loading.{loaded}
 use Rattle.bolttable.proofs.load.Statement.{statement}
 use Rattle.bolttable.proofs.load.Tie as tie
 

@@ -3,12 +3,11 @@ use mathlib.Core.Path.{_≡_, sym, _∙_}
 use mathlib.Core.Bool.{true}
 use borrow.Author.Needs.{needs}
 use borrow.Author.Tests.{lt-ltb, le-ltb, le-leb, lt-leb, not-true, not-false}
-use lib.Dec.{T}
-use mir.Facts.{and-yes}
-use Rattle.arithmetic.specs.Range.{Within, within}
-use Rattle.arithmetic.proofs.Bounds.{exactly, _⊗_, fits, within-yes}
-use Rattle.bolttable.specs.Loading.{boltDiameters, boltAreas, sizeInRange}
+use Rattle.arithmetic.specs.Range.{Within}
+use Rattle.arithmetic.proofs.Bounds.{exactly, _⊗_, fits}
+use Rattle.bolttable.specs.Loading.{boltDiameters, sizeInRange}
 use Rattle.bolttable.specs.Steps.{sizeNumber}
+use Rattle.bolttable.proofs.Areas.{size-ranges}
 use Rattle.bolttable.proofs.size_number.Statement.{statement}
 use Rattle.bolttable.proofs.size_number.Tie as tie
 
@@ -21,9 +20,7 @@ in-range : (c : tie.Else1) → sizeInRange (record { diameter = start c .args .d
 in-range c = sym (c .before .is-in-range .ensures) ∙ not-false _ (c .if1 .left)
 
 diameter : (c : tie.Else1) → Within boltDiameters (start c .args .diameter)
-diameter c =
-    let a = start c .args in
-    within-yes boltDiameters (a .diameter) (and-yes (within boltDiameters (a .diameter)) (within boltAreas (a .area)) (rw (in-range c) tt) .0)
+diameter c = size-ranges (record { diameter = start c .args .diameter; area = start c .args .area }) (rw (in-range c) tt) .0
 
 -- ---- the needs
 

@@ -59,12 +59,15 @@ loop-less c = omega arith
 loop-again : tie.Need-loop-again Inv-loop μ-loop
 loop-again c =
     let t = turn c in
-    let a = start t .args in
-    let number : c .lesser .result ≡ min (t .loop .least) (sizeNumber (t .loop .last) (sizeAt (a .diameters .now) (a .areas .now) (t .loop .place)))
-    = c .lesser .ensures ∙ ap (min (t .loop .least)) (c .before .size-number .ensures) in (
+    let s = start t in
+    let a = s .args in
+    let own = sizeNumber (t .loop .last) (sizeAt (a .diameters .now) (a .areas .now) (t .loop .place)) in
+    let number : c .lesser .result ≡ min (t .loop .least) own
+    = c .lesser .ensures ∙ ap (min (t .loop .least)) (c .before .size-number .ensures) in
+    let next-diameter = getD (a .diameters .now) (t .loop .place) 0 in (
       omega (arith, c .lesser .ensures, t .loop .inv .0),
-      ap (λ (least : ℕ). left (a .count) (a .diameters .now) (a .areas .now) least (getD (a .diameters .now) (t .loop .place) 0) (t .loop .place + 1)) number
-          ∙ sym (next _ _ _ (start t .pre .0) (start t .pre .1) _ _ _ (c .before .before .before .before .loop-test .taken))
+      ap (λ (least : ℕ). left (a .count) (a .diameters .now) (a .areas .now) least next-diameter (t .loop .place + 1)) number
+          ∙ sym (next _ _ _ (s .pre .0) (s .pre .1) _ _ _ (c .before .before .before .before .loop-test .taken))
           ∙ t .loop .inv .1,
     )
 

@@ -30,7 +30,8 @@ table s = tableOfWords (now (s .args .table))
 
 -- ---- what `work_with` answers is what the table and the joint of the words come to
 
-area-is : (c : tie.After-work-with) → c .before .area-of .result ≡ areaOf (table (start c)) (c .before .before .joint-of .result .bolts .diameter)
+area-is : (c : tie.After-work-with)
+    → c .before .area-of .result ≡ areaOf (table (start c)) (c .before .before .joint-of .result .bolts .diameter)
 area-is c = c .before .area-of .ensures
 
 same : (c : tie.After-work-with) → c .work-with .result ≡ worked (table (start c)) (jointOfWords (now (start c .args .fields)))
@@ -86,8 +87,8 @@ returns-2 c =
     let passed = put .before .before in
     let call = worked-at (passed .before) in
     let s = start call in
-    let demand = subst (λ (area : BoltArea). Demand3With area (call .before .before .joint-of .result) (call .work-with .result)) (area-is call)
-    (call .work-with .ensures .1 (passed .if1 .left)) in
+    let demand = subst (λ (area : BoltArea). Demand3With area (call .before .before .joint-of .result) (call .work-with .result))
+    (area-is call) (call .work-with .ensures .1 (passed .if1 .left)) in
     work-put _ _ _ (s .pre) (same call) (passed .if1 .left) (put .put-outcome .ensures .1)
     (demand-words (now (s .args .result)) (table s) (jointOfWords (now (s .args .fields))) (call .work-with .result)
     (put .put-outcome .ensures .0 .0) (put .put-outcome .ensures .0 .1)

@@ -34,7 +34,8 @@ returns c =
     let worked = c .before .before .before in
     let a = start worked .args in (
       c .refused .ensures
-          ∙ first-refused (a .column) (a .bolts) (a .area) (a .first) (a .second) (worked .work-connection .ensures .0) (c .before .if1 .taken),
+          ∙ first-refused (a .column) (a .bolts) (a .area) (a .first) (a .second) (worked .work-connection .ensures .0)
+          (c .before .if1 .taken),
       (λ none. absurd (c .before .if1 .taken (refusal-is _ _ 1 _ (c .refused .ensures) none))),
     )
 

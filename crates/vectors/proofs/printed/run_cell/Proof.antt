@@ -48,6 +48,9 @@ put-words-requires-2 c κs = search needs
 returns-2 : tie.Need-returns-2
 returns-2 c = search needs
 
+built-in-requires : tie.Need-built-in-requires
+built-in-requires c κs = search needs
+
 worked-numbers-requires : tie.Need-worked-numbers-requires
 worked-numbers-requires c κs = search needs
 
@@ -93,6 +96,7 @@ run-cell-spec =
     slice-aggregate-put-words-3
     put-words-requires-2
     returns-2
+    built-in-requires
     worked-numbers-requires
     array-share-prefix-are
     slice-aggregate-compare
