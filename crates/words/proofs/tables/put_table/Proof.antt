@@ -42,14 +42,6 @@ put-twelve-requires-2 c κs =
       start (put .before) .pre,
     )
 
-same-length : tie.Need-same-length
-same-length c =
-    let second = c .before .before in
-    let put = second .before .before .before .before in
-    let a = start (put .before) .args in
-    ap length (second .put-twelve2 .ensures .1) ∙ length-sets (put .put-twelve .last .0) areasFrom (a .table .areas)
-    ∙ ap length (first put) ∙ length-sets (now (a .words)) 0 (a .table .count ∷ a .table .diameters)
-
 returns : tie.Need-returns
 returns c =
     let second = c .before .before in
@@ -61,6 +53,14 @@ returns c =
     ∙ ap (λ (slice : List ℕ). sets slice areasFrom (table .areas)) (first put)
     ∙ copied-after words (table .count ∷ table .diameters) (table .areas) (omega (arith, put .put-twelve .ensures .0))
     (omega (arith, second .put-twelve2 .ensures .0, s .pre))
+
+same-length : tie.Need-same-length
+same-length c =
+    let second = c .before .before in
+    let put = second .before .before .before .before in
+    let a = start (put .before) .args in
+    ap length (second .put-twelve2 .ensures .1) ∙ length-sets (put .put-twelve .last .0) areasFrom (a .table .areas)
+    ∙ ap length (first put) ∙ length-sets (now (a .words)) 0 (a .table .count ∷ a .table .diameters)
 
 pub put-table-spec : {M : Type 1} → statement M
 put-table-spec =
