@@ -4,7 +4,7 @@
  * ones 0, then the second face's fields 1, 2, 6, 7 and 14 to 29 with its eight levers. These last 28 words are looked at only where field 1
  * is 17 to 24, and jinqewan_read puts 0 there for a joint with one face. The axial force is its two's complement. A bolt table is 25 words:
  * its count of sizes, twelve diameters in millimetres and twelve areas in tenths of a square millimetre, of which only the counted ones
- * are looked at. Slices that a call reads and slices that it writes don't overlap.
+ * are looked at. An area is the tensile stress area of the thread, not the shank's, and nothing here can tell them apart. Slices that a call reads and slices that it writes don't overlap.
  *
  * Each call but jinqewan_rest answers 0 where it did what it is for, and else one number that tells why not: the refusal's number
  * (JINQEWAN_NUMBER), for refusal 10 the field (JINQEWAN_FIELD) and, where jinqewan_work refuses a joint with two faces, the face
@@ -24,13 +24,20 @@ enum {
     JINQEWAN_JOINT_WORDS = 66,
     JINQEWAN_SECOND_FACE_FIELDS = 38,   /* where the second face's words begin in a joint */
     JINQEWAN_TABLE_WORDS = 25,
-    JINQEWAN_TABLE_SIZES = 12,          /* most sizes of a bolt table; areas begin that many places after the diameters */
+    JINQEWAN_TABLE_SIZES = 12,          /* most sizes of a bolt table */
     JINQEWAN_FORCES = 8,
     JINQEWAN_RESULT_WORDS = 35,
     JINQEWAN_LONGEST_FILE = 322,
     JINQEWAN_LONGEST_INPUT = 65536,
     JINQEWAN_SHORT = 100,
     JINQEWAN_NO_ROOM = 101
+};
+
+/* The words of a bolt table: how many sizes it has, and where the twelve diameters and the twelve areas begin. */
+enum {
+    JINQEWAN_TABLE_COUNT = 0,
+    JINQEWAN_TABLE_DIAMETERS = 1,       /* millimetres */
+    JINQEWAN_TABLE_AREAS = 13           /* tensile stress areas, tenths of a square millimetre: 3030 for an M22 of 303 mm2 */
 };
 
 /* The kinds of joint file: one of the old kind has no field 30, and gives 15000 for it. Any number but 1 is taken for the new kind. */
@@ -79,7 +86,8 @@ uint32_t jinqewan_write(const uint32_t *fields, size_t fields_length, uint8_t *b
 uint32_t jinqewan_built_in(uint32_t *table, size_t table_length);
 
 /* Puts a bolt table in force: its 25 words go to the front of `in_force`, those past the count too. One that isn't taken leaves the table
- * before in force. Refused are, each tried over all sizes before the next: by 16 a count that isn't 1 to 12, a diameter that isn't 6 to 64,
+ * before in force, so look at the answer: after a refusal jinqewan_work goes on with the bolts of before. `in_force` is read as well: let it
+ * hold a table, jinqewan_built_in's at first. Refused are, each tried over all sizes before the next: by 16 a count that isn't 1 to 12, a diameter that isn't 6 to 64,
  * an area that isn't 1 to 40000; by 17 diameters of which one isn't above the one before it; by 18 an area above 785 times the diameter's
  * square divided by 100. */
 uint32_t jinqewan_load(const uint32_t *table, size_t table_length, uint32_t *in_force, size_t in_force_length);

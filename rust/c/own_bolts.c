@@ -35,11 +35,13 @@ static uint32_t work(const char *name, const uint32_t *table, const uint32_t *jo
 int main(void)
 {
     const uint32_t other_maker[JINQEWAN_TABLE_WORDS] = {
-        4, 16, 20, 22, 27, 0, 0, 0, 0, 0, 0, 0, 0,
-        1570, 2450, 3030, 4590};
+        [JINQEWAN_TABLE_COUNT] = 4,
+        [JINQEWAN_TABLE_DIAMETERS] = 16, 20, 22, 27,
+        [JINQEWAN_TABLE_AREAS] = 1570, 2450, 3030, 4590};
     const uint32_t equal_diameters[JINQEWAN_TABLE_WORDS] = {
-        2, 24, 24, 0, 0, 0, 0, 0, 0, 0, 0, 0, 0,
-        3530, 3530};
+        [JINQEWAN_TABLE_COUNT] = 2,
+        [JINQEWAN_TABLE_DIAMETERS] = 24, 24,
+        [JINQEWAN_TABLE_AREAS] = 3530, 3530};
     const uint32_t joint[JINQEWAN_JOINT_WORDS] = {
         1, 0, 88, 22, 275, 275, 275, 5283, 2087, 132, 96, 127, 4765, 3071, 1657, 118, 67, 2000, 200,
         900, 0, 600, 80, 60, 2000, 1, 0, 57000, 50000, 15000, 2400};

@@ -1,15 +1,14 @@
 -- A rule of a table, shown by one test that antt computes over all entries and carried to each: by its place in a list, or by its key.
 -- Assumes nothing.
 use mathlib.Core.Path.{_∙_, subst, sym}
-use mathlib.Core.Logic.{⊎-elim}
 use mathlib.Core.Bool.{Bool, true, false, cond, _&&_, _||_}
 use mathlib.Core.List.{List, [], _∷_}
 use Prim.Native.Nat.{ℕ, zero, suc, _+_, _<_}
 use native.Mathlib.Nat.{add-zero, zero-add, add-suc, suc-add, le-of-suc-le-suc, not-suc-le-zero}
-use lib.Dec.{T, eqb, eqb→eq}
+use lib.Dec.{T}
 use lib.ListN.{length, getD}
-use mir.Facts.{and-yes, or-yes}
-use Rattle.arithmetic.specs.Table.{every, any, find, oneOf}
+use mir.Facts.{and-yes}
+use Rattle.arithmetic.specs.Table.{every, any, find}
 
 from : (f : ℕ → ℕ → Bool) (xs : List ℕ) (i : ℕ) → T (every f i xs) → (k : ℕ) → k < length xs → T (f (i + k) (getD xs k 0))
 from f [] i t k h = absurd (not-suc-le-zero h)
@@ -51,11 +50,3 @@ module _ (f test : ℕ → Bool) where
   of-any (k ∷ keys) (v ∷ values) t z =
       let both = and-yes (f v) (each f keys values) t in
       either (test k) v (find test keys values) (both .0) (of-any keys values (both .1) z)
-
--- a rule that passes at each number of a list passes at one of them
-pub of-one : (f : ℕ → Bool) (xs : List ℕ) → T (each f xs xs) → (x : ℕ) → T (oneOf xs x) → T (f x)
-of-one f [] t x h = absurd h
-of-one f (y ∷ ys) t x h =
-    let both = and-yes (f y) (each f ys ys) t in
-    ⊎-elim (λ (e : T (eqb x y)). subst (λ (z : ℕ). T (f z)) (sym (eqb→eq x y e)) (both .0)) (of-one f ys (both .1) x)
-    (or-yes (eqb x y) (oneOf ys x) h)

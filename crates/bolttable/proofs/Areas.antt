@@ -1,4 +1,4 @@
--- What a table lists: by the one pass that finds it, and how large it can be. By induction over the sizes. Assumes nothing.
+-- What a table that is refused lists, and one that is taken, and how large it can be. By induction over the sizes. Assumes nothing.
 use mathlib.Core.Path.{_≡_, refl}
 use mathlib.Core.Bool.{Bool, true, false, cond}
 use mathlib.Core.List.{List, [], _∷_}
@@ -37,11 +37,11 @@ apart : (number : ℕ) → Taken ≡ Refused number → ⊥
 apart number e = let never : _≡_ {A = ℕ} 0 1 = cc in omega arith
 
 module _ (table : BoltTable) (e : tableCheck table ≡ Taken) where
-  pub counted-in-range : T (within sizeCounts (table .count)) × T (eachSize sizeInRange (countedSizes table))
+  pub sizes-in-range : T (eachSize sizeInRange (countedSizes table))
   unfolding tableCheck tableRefusals
-  counted-in-range =
+  sizes-in-range =
       and-yes (within sizeCounts (table .count)) (eachSize sizeInRange (countedSizes table))
-      (all-hold Taken Refused apart (tableRefusals table) e 0)
+      (all-hold Taken Refused apart (tableRefusals table) e 0) .1
 
   pub diameters-rise : T (diametersRise (countedSizes table))
   unfolding tableCheck tableRefusals
@@ -50,9 +50,6 @@ module _ (table : BoltTable) (e : tableCheck table ≡ Taken) where
   pub areas-fit : T (eachSize areaFits (countedSizes table))
   unfolding tableCheck tableRefusals
   areas-fit = all-hold Taken Refused apart (tableRefusals table) e 2
-
-  pub count-in-range : Within sizeCounts (table .count)
-  count-in-range = within-yes sizeCounts (table .count) (counted-in-range .0)
 
 -- ---- how large what it lists can be
 
@@ -92,5 +89,5 @@ area-in-range table diameter = by-check (tableCheck table) refl
   where
     by-check : (check : TableCheck) → tableCheck table ≡ check
         → AreaInRange diameter (areaAmong diameter (sizesBy check (countedSizes table)))
-    by-check Taken e = among-in-range diameter (countedSizes table) (counted-in-range table e .1) (areas-fit table e)
+    by-check Taken e = among-in-range diameter (countedSizes table) (sizes-in-range table e) (areas-fit table e)
     by-check (Refused number) e = record { listed = λ never. absurd never; most = atMost zero-le }

@@ -1,6 +1,6 @@
--- The laws of a table's sizes by their places (`Sizes`), of the least number that a size is refused by (`Numbers`), of what a table lists
--- (`Areas`), and of the one pass that finds it (`Passes`). They assume nothing.
+-- The laws of a table's sizes by their places (`Sizes`), of what a table lists and how large it can be (`Areas`), of loading's pass over
+-- the sizes (`Checks`), and of Work's (`Passes`). They assume nothing.
 pub mod Sizes
-pub mod Numbers
 pub mod Areas
+pub mod Checks
 pub mod Passes

@@ -22,7 +22,8 @@ use Rattle.bolttable.specs.declared.BoltArea.{BoltArea}
 use Rattle.bolttable.specs.declared.BoltArea.the-variants.{Listed, Unlisted}
 use Rattle.bolttable.specs.declared.TableCheck.{TableCheck}
 use Rattle.bolttable.specs.declared.TableCheck.the-variants.{Taken, Refused}
-use Rattle.bolttable.proofs.Areas.{size-ranges, if-refused, if-taken, counted-in-range, areas-fit, diameters-rise}
+use Rattle.bolttable.proofs.Areas.{size-ranges, if-refused, if-taken, sizes-in-range, areas-fit, diameters-rise}
+use Rattle.bolttable.proofs.Checks.{from-first}
 use Rattle.bolttable.proofs.Sizes.{sizeAt, sizes-from, sizes-end}
 
 -- ---- a size that may follow
@@ -166,20 +167,6 @@ module _ (diameter : ℕ) where
 
 -- ---- a table: its sizes are a chain exactly where it is taken
 
--- the first size is above the least less one, being in range
-from-first : (sizes : List Size) → T (eachSize sizeInRange sizes) → T (diametersRise sizes) → T (riseAbove belowLeast sizes)
-unfolding riseAbove
-from-first [] own rises = tt
-from-first (size ∷ sizes) own rises =
-    let ranges = and-yes (sizeInRange size) (eachSize sizeInRange sizes) own in
-    let low = size-ranges size (ranges .0) .0 .low in
-    yes-and (ltb belowLeast (size .diameter)) (riseAbove (size .diameter) sizes) (lt→ltb belowLeast (size .diameter) (omega arith)) rises
-
-to-first : (sizes : List Size) → T (riseAbove belowLeast sizes) → T (diametersRise sizes)
-unfolding riseAbove
-to-first [] t = tt
-to-first (size ∷ sizes) t = and-yes (ltb belowLeast (size .diameter)) (riseAbove (size .diameter) sizes) t .1
-
 module _ (table : BoltTable) (counted : within sizeCounts (table .count) ≡ true) where
   chain-taken : T (chain belowLeast (countedSizes table)) → tableCheck table ≡ Taken
   unfolding tableCheck tableRefusals firstFailing
@@ -188,15 +175,19 @@ module _ (table : BoltTable) (counted : within sizeCounts (table .count) ≡ tru
       rw (
         counted,
         yes (eachSize sizeInRange (countedSizes table)) (s .ranges),
-        yes (diametersRise (countedSizes table)) (to-first (countedSizes table) (s .rises)),
+        sym (from-first (countedSizes table) (s .ranges)) ∙ yes (riseAbove belowLeast (countedSizes table)) (s .rises),
         yes (eachSize areaFits (countedSizes table)) (s .areas),
       )
 
   taken-chain : tableCheck table ≡ Taken → T (chain belowLeast (countedSizes table))
   taken-chain e =
-      let ranges = counted-in-range table e .1 in
+      let ranges = sizes-in-range table e in
       chained belowLeast (countedSizes table)
-      (record { ranges = ranges; rises = from-first (countedSizes table) ranges (diameters-rise table e); areas = areas-fit table e })
+      (record {
+        ranges = ranges;
+        rises = rw (from-first (countedSizes table) ranges) (diameters-rise table e);
+        areas = areas-fit table e;
+      })
 
   -- so the pass finds what the table lists
   pub passed : (diameter : ℕ) → areaPassed diameter belowLeast 0 (countedSizes table) ≡ areaOf table diameter

@@ -1,14 +1,14 @@
 -- How large what a table lists can be: the bounds have their names here and are cited by them in the crates above. Assumes nothing.
-use Prim.Native.Nat.{ℕ, _*_, _/_}
+use Prim.Native.Nat.{ℕ}
 use lib.Dec.{T}
 use Rattle.arithmetic.specs.Range.{Within, _to_}
-use Rattle.bolttable.specs.Loading.{boltDiameters}
+use Rattle.bolttable.specs.Loading.{boltDiameters, greatestArea}
 use Rattle.bolttable.specs.Area.{isListed, areaNumber}
 use Rattle.bolttable.specs.declared.BoltArea.{BoltArea}
 
--- no A is above this, that of the greatest diameter
+-- no A is above this, 32153: that of the greatest diameter
 abbrev pub mostArea : ℕ
-mostArea = 785 * boltDiameters .high * boltDiameters .high / 100
+mostArea = greatestArea (boltDiameters .high)
 
 -- what every table lists for a diameter
 pub record AreaInRange (diameter : ℕ) (area : BoltArea) : Type 0 where

@@ -18,7 +18,7 @@ sizeCounts = 1 to 12
 abbrev pub boltDiameters : Range
 boltDiameters = 6 to 64
 
--- A, in tenths of mm²
+-- A, the tensile stress area, in tenths of mm²
 abbrev pub boltAreas : Range
 boltAreas = 1 to 40000
 
@@ -58,9 +58,12 @@ abbrev pub diametersRise : List Size → Bool
 diametersRise [] = true
 diametersRise (size ∷ sizes) = riseAbove (size .diameter) sizes
 
--- rule 3.7, of 18: an area is at most 785×δ²÷100
+-- rule 3.7, of 18: 785×δ²÷100, and an area that isn't above it
+abbrev pub greatestArea : (diameter : ℕ) → ℕ
+greatestArea diameter = 785 * diameter * diameter / 100
+
 abbrev pub areaFits : Size → Bool
-areaFits size = leb (size .area) (785 * size .diameter * size .diameter / 100)
+areaFits size = leb (size .area) (greatestArea (size .diameter))
 
 -- rule 3.7: the refusals of loading in their order, each number with the test that lets a table pass
 unfoldable pub tableRefusals : BoltTable → List Check

@@ -1,36 +1,32 @@
--- A table tested in one pass over its sizes, for loading by the number that it is refused by, for Work with the area that it lists. No rule
+-- A table tested in one pass over its sizes: for loading, by which number it is refused; for Work, with the area that it lists. No rule
 -- stands here. Assumes nothing.
 use mathlib.Core.Path.{_≡_}
-use Prim.Native.Nat.{ℕ, _-_, _*_, min}
+use Prim.Native.Nat.{ℕ, _-_, _*_}
 use mathlib.Core.Bool.{Bool, cond, _&&_}
 use mathlib.Core.List.{List, [], _∷_}
 use lib.Dec.{leb, ltb, eqb}
 use lib.ListN.{length}
-use Rattle.bolttable.specs.Loading.{Size, sizeCounts, boltDiameters, sizeInRange, areaFits}
+use Rattle.arithmetic.specs.Checks.{firstFailing}
+use Rattle.bolttable.specs.Loading.{Size, sizeCounts, boltDiameters, eachSize, sizeInRange, diametersRise, areaFits}
 use Rattle.bolttable.specs.declared.BoltArea.{BoltArea}
 use Rattle.bolttable.specs.declared.BoltArea.the-variants.{Listed, Unlisted}
+use Rattle.bolttable.specs.declared.TableCheck.{TableCheck}
+use Rattle.bolttable.specs.declared.TableCheck.the-variants.{Taken, Refused}
 
 -- a table's twelve places, lent
 pub record Places (diameters areas : List ℕ) : Type 0 where
   pub diameter-places : length diameters ≡ sizeCounts .high
   pub area-places : length areas ≡ sizeCounts .high
 
--- the number of what isn't refused, above those of the refusals
-abbrev pub byNone : ℕ
-byNone = 255
-
--- the number that a size is refused by, after one with the diameter `last`
-unfoldable pub sizeNumber : (last : ℕ) → Size → ℕ
-sizeNumber last size = cond (sizeInRange size) (cond (ltb last (size .diameter)) (cond (areaFits size) byNone 18) 17) 16
-
--- the least number of any size
-unfoldable pub tableNumber : (last : ℕ) → List Size → ℕ
-tableNumber last [] = byNone
-tableNumber last (size ∷ sizes) = min (sizeNumber last size) (tableNumber (size .diameter) sizes)
-
 -- what the first diameter is held to be above
 abbrev pub belowLeast : ℕ
 belowLeast = boltDiameters .low - 1
+
+-- the refusals of loading after that of the count, over all sizes
+unfoldable pub sizesCheck : List Size → TableCheck
+sizesCheck sizes =
+    firstFailing Taken Refused
+    ((16, eachSize sizeInRange sizes) ∷ (17, diametersRise sizes) ∷ (18, eachSize areaFits sizes) ∷ [])
 
 -- Whether a size may come after one with the diameter `last`, or after none. Of its range only what the rest doesn't say is tested.
 abbrev pub mayFollow : (last : ℕ) → Size → Bool

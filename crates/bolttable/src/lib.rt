@@ -1,12 +1,12 @@
 // A table of bolt sizes: it is loaded and checked, and stands in for the five built in. What Work has of it is the area of one
 // diameter: everything after that goes by figures.
 ghost use mathlib.Core.Path.{_≡_};
-ghost use Prim.Native.Nat.{_≤_, min};
+ghost use Prim.Native.Nat.{_≤_};
 ghost use lib.ListN.{length};
 ghost use Rattle.arithmetic.specs.Range.{within};
 ghost use Rattle.bolttable.specs.Loading.{sizeCounts, sizesIn, sizeInRange, tableCheck, loaded, builtIn};
 ghost use Rattle.bolttable.specs.Area.{areaOf, isListed, areaNumber};
-ghost use Rattle.bolttable.specs.Steps.{Places, sizeNumber, tableNumber, belowLeast, mayFollow, areaPassed};
+ghost use Rattle.bolttable.specs.Steps.{Places, belowLeast, sizesCheck, mayFollow, areaPassed};
 use arithmetic::chosen;
 
 // The places of a table.
@@ -15,16 +15,13 @@ pub const PLACES: usize = 12;
 // One less than the least diameter.
 const BELOW_LEAST: u32 = 5;
 
-// The number of a size or of sizes that aren't refused, above those that they are refused by.
-const BY_NONE: u32 = 255;
-
 // A table of bolt sizes. Only the first `count` places are looked at.
 pub struct BoltTable {
-    // 1 to 12
+    // sizes; of a table that is taken 1 to 12
     pub count: u32,
-    // δ, in millimetres, rising
+    // δ, in millimetres; of a table that is taken rising
     pub diameters: [u32; PLACES],
-    // A, in tenths of mm², at the place of its diameter
+    // A, the tensile stress area, in tenths of mm², at the place of its diameter
     pub areas: [u32; PLACES],
 }
 
@@ -122,7 +119,7 @@ fn area_in_arrays(
     area_in(count, &diameters, &areas, diameter)
 }
 
-// The same of a table whose places are lent. Open for the exported calls, which lend twelve of each.
+// The area that a table lists for a diameter, its places lent. Open for `words`, which lends twelve of each.
 pub fn area_in(count: u32, diameters: &[u32], areas: &[u32], diameter: u32) -> BoltArea
     requires { ⌜ Places (now diameters) (now areas) ⌝ }
     ensures { λ r. ⌜ r
@@ -135,7 +132,7 @@ pub fn area_in(count: u32, diameters: &[u32], areas: &[u32], diameter: u32) -> B
 }
 
 // The area of the size with the diameter. Work asks for it each time, so the sizes are tested and searched in one pass, which doesn't tell
-// by which number a table is refused. A match is kept by a choice and not by a branch: which size it is can't be foreseen.
+// by which number a table is refused. `chosen` keeps a match without a jump: which size it is can't be foreseen.
 fn area_among(count: usize, diameters: &[u32], areas: &[u32], diameter: u32) -> BoltArea
     requires { ⌜ (count ≤ length (now diameters)) × (count ≤ length (now areas)) ⌝ }
     ensures { λ r. ⌜ r ≡ areaPassed diameter belowLeast 0 (sizesIn count (now (diameters .entry)) (now (areas .entry))) ⌝ }
@@ -159,7 +156,8 @@ fn area_among(count: usize, diameters: &[u32], areas: &[u32], diameter: u32) -> 
     BoltArea::Listed(found)
 }
 
-// Whether a size may come after one with the diameter `last`.
+// Whether a size may come after one with the diameter `last`, or after none. That a diameter is 6 or more and an area at most 40000 needs no
+// test: it is above `last`, which is 5 or more, and the greatest area of any diameter is 32153.
 fn may_follow(last: u32, diameter: u32, area: u32) -> bool
     ensures { λ r. ⌜ r ≡ mayFollow last (record { diameter = diameter; area = area }) ⌝ }
 {
@@ -179,12 +177,7 @@ fn check_table(count: u32, diameters: &[u32], areas: &[u32]) -> TableCheck
     if !is_size_count(count) {
         return TableCheck::Refused(16);
     }
-    let number = table_number(count as usize, diameters, areas);
-    if number == BY_NONE {
-        TableCheck::Taken
-    } else {
-        TableCheck::Refused(number)
-    }
+    check_sizes(count as usize, diameters, areas)
 }
 
 fn is_size_count(count: u32) -> bool
@@ -193,44 +186,34 @@ fn is_size_count(count: u32) -> bool
     (1 <= count) & (count <= 12)
 }
 
-// The least number that a size is refused by. The numbers rise in the order in which they are tried, so it is the one that is tried first
-// over all sizes.
-fn table_number(count: usize, diameters: &[u32], areas: &[u32]) -> u32
+// 16 comes first over all sizes, so a number out of range decides there and then. Whether diameters rise and areas fit is told after the
+// last size.
+fn check_sizes(count: usize, diameters: &[u32], areas: &[u32]) -> TableCheck
     requires { ⌜ (count ≤ length (now diameters)) × (count ≤ length (now areas)) ⌝ }
-    ensures { λ r. ⌜ r ≡ tableNumber 0 (sizesIn count (now (diameters .entry)) (now (areas .entry))) ⌝ }
+    ensures { λ r. ⌜ r ≡ sizesCheck (sizesIn count (now (diameters .entry)) (now (areas .entry))) ⌝ }
 {
-    let mut least = BY_NONE;
-    let mut last = 0;
+    let mut rise = true;
+    let mut fit = true;
+    let mut last = BELOW_LEAST;
     let mut place = 0;
     while place < count {
         let diameter = diameters[place];
-        least = lesser(least, size_number(last, diameter, areas[place]));
+        let area = areas[place];
+        if !is_in_range(diameter, area) {
+            return TableCheck::Refused(16);
+        }
+        rise = rise & (last < diameter);
+        fit = fit & (area <= 785 * diameter * diameter / 100);
         last = diameter;
         place += 1;
     }
-    least
-}
-
-fn lesser(a: u32, b: u32) -> u32
-    ensures { λ r. ⌜ r ≡ min a b ⌝ }
-{
-    if a < b { a } else { b }
-}
-
-// The number that a size is refused by, after one with the diameter `last`.
-fn size_number(last: u32, diameter: u32, area: u32) -> u32
-    ensures { λ r. ⌜ r ≡ sizeNumber last (record { diameter = diameter; area = area }) ⌝ }
-{
-    if !is_in_range(diameter, area) {
-        return 16;
+    if !rise {
+        return TableCheck::Refused(17);
     }
-    if diameter <= last {
-        return 17;
+    if !fit {
+        return TableCheck::Refused(18);
     }
-    if 785 * diameter * diameter / 100 < area {
-        return 18;
-    }
-    BY_NONE
+    TableCheck::Taken
 }
 
 fn is_in_range(diameter: u32, area: u32) -> bool

@@ -1,2 +1,2 @@
--- The checked joints A to I of rules 14, as one table.
+-- The checked joints of rules 14, as one table.
 pub mod Checked

@@ -64,8 +64,8 @@ writingInto fields buffer size =
     answered (leb jointWordCount (length fields)) (written .refusal) 0 0 (filePut written) (record { bytes = buffer; size = size })
 
 -- rule 13.6: the table built in
-abbrev pub buildingInto : (table : List ℕ) → Answered (List ℕ)
-buildingInto table = answered (leb tableWordCount (length table)) 0 0 0 (atFront (wordsOfTable builtIn) table) table
+abbrev pub builtInInto : (table : List ℕ) → Answered (List ℕ)
+builtInInto table = answered (leb tableWordCount (length table)) 0 0 0 (atFront (wordsOfTable builtIn) table) table
 
 -- rules 3.7 and 13.6: the table that is in force after loading
 abbrev pub loadingInto : (table inForce : List ℕ) → Answered (List ℕ)

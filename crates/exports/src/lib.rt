@@ -17,7 +17,7 @@ ghost use Rattle.joint.specs.Faces.{twoFaced};
 ghost use Rattle.words.specs.Tables.{tableOfWords};
 ghost use Rattle.words.specs.Words.{jointOfWords};
 ghost use Rattle.exports.specs.Answers.{answers};
-ghost use Rattle.exports.specs.Calls.{allocating, kindOf, readingInto, writingInto, buildingInto, loadingInto, workingInto};
+ghost use Rattle.exports.specs.Calls.{allocating, kindOf, readingInto, writingInto, builtInInto, loadingInto, workingInto};
 ghost use Rattle.exports.specs.Calls.{Demand3OfWords, EnoughWords, WorkedInto, sheetingInto};
 use joint::is_two_faced;
 use jointfile::FileKind;
@@ -119,7 +119,7 @@ pub extern "C" fn jinqewan_write(fields: &[u32], buffer: &mut [u8], length: &mut
 // The bolt table that is built in, to the first places.
 #[no_mangle]
 pub extern "C" fn jinqewan_built_in(table: &mut [u32]) -> u32
-    ensures { λ r. ⌜ answers r (now (table .exit)) ≡ buildingInto (now (table .entry)) ⌝ }
+    ensures { λ r. ⌜ answers r (now (table .exit)) ≡ builtInInto (now (table .entry)) ⌝ }
 {
     if table.len() < TABLE_WORDS {
         return SHORT;

@@ -13,7 +13,6 @@ use Rattle.joint.specs.Ranges.{rowCounts}
 use Rattle.joint.specs.declared.Column.{Column}
 use Rattle.joint.specs.declared.Face.{Face}
 use Rattle.strength.specs.Steel.{steelStrength}
-use Rattle.strength.specs.InRange.{mostPairTension}
 use Rattle.strength.specs.declared.SteelStrengths.{SteelStrengths}
 use Rattle.spacing.specs.Spacing.{rise}
 use Rattle.spacing.specs.declared.Spacing.{Spacing}
@@ -21,7 +20,6 @@ use Rattle.stubs.specs.Bending.{leastOf, extensionLength, bending}
 use Rattle.stubs.specs.Worked.{stubOf, lengthBy, bendingBy}
 use Rattle.stubs.specs.declared.Stub.{Stub}
 use Rattle.stubs.proofs.Same.{bending-worked, web-worked, length-worked}
-use Rattle.sharing.specs.Groups.{mostLimit}
 use Rattle.tension.specs.Limits.{
   rowsIn,
   columnFlangeBending,
@@ -33,7 +31,7 @@ use Rattle.tension.specs.Limits.{
   groupLimit,
 }
 use Rattle.tension.specs.Dimensions.{dimensionsOf, columnBy, plateSideBy, plateBy, websBy, limitBy, limitsBy}
-use Rattle.tension.specs.InRange.{DimensionsWithin}
+use Rattle.tension.specs.InRange.{mostGroupLimit, DimensionsWithin}
 use Rattle.tension.specs.Admissible.{FiguresGiven, ExtensionFigures}
 use Rattle.tension.specs.declared.Dimensions.{Dimensions}
 
@@ -129,6 +127,5 @@ module _ (d : Dimensions) (i k s : ℕ) where
   unfolding limitBy columnBy bendingBy
   limit-le = le-trans (webs-le _) (le-trans (plate-le _) (min-le-right _ _))
 
-  pub limit-small : DimensionsWithin d → k ≤ rowCounts .high → limitBy d i k s ≤ mostLimit
-  limit-small w few =
-      omega (arith, limit-le, mul-le-mul {n₁ = k} {m₁ = d .pair} {n₂ = rowCounts .high} {m₂ = mostPairTension} few (w .pair .high))
+  pub limit-small : DimensionsWithin d → k ≤ rowCounts .high → limitBy d i k s ≤ mostGroupLimit
+  limit-small w few = le-trans limit-le (mul-le-mul few (w .pair .high))

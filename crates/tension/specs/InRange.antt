@@ -1,9 +1,14 @@
 -- How large the dimensions of a face are, and the groups that limits are asked for. Assumes nothing.
-use Prim.Native.Nat.{ℕ}
+use Prim.Native.Nat.{ℕ, _*_}
 use Rattle.arithmetic.specs.Range.{Within, _to_}
+use Rattle.joint.specs.Ranges.{rowCounts}
 use Rattle.strength.specs.InRange.{mostPairTension}
 use Rattle.stubs.specs.InRange.{groupRows, rises, mostPattern, mostWebLength, mostWeb, StubWithin, LengthsWithin}
 use Rattle.tension.specs.declared.Dimensions.{Dimensions}
+
+-- no group limit is above this, 36011360: what the bolts of eight rows carry
+abbrev pub mostGroupLimit : ℕ
+mostGroupLimit = rowCounts .high * mostPairTension
 
 pub record DimensionsWithin (d : Dimensions) : Type 0 where
   pub column : StubWithin (d .column)

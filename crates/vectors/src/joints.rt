@@ -1,4 +1,5 @@
-// Work on a line's joint: `work J = refusal field R`, and with a second face `work J = refusal field R R panel face`.
+// Work on a line's joint: `work J = refusal field R`, and with a second face `work J = refusal field R R panel face`; after the table of an
+// `own` line the same.
 use crate::compare::Comparison;
 use crate::compare::compare;
 use crate::reader::Place;

@@ -148,7 +148,8 @@ pub fn built_in(table: &mut [u32]) -> u32 {
     unsafe { c::jinqewan_built_in(table.as_mut_ptr(), table.len()) }
 }
 
-/// Puts a bolt table in force. One that isn't taken, by 16, 17 or 18, leaves the one before.
+/// Puts a bolt table in force. One that isn't taken, by 16, 17 or 18, leaves the one before, and `work` goes on with that: look at the
+/// answer.
 pub fn load(table: &[u32], in_force: &mut [u32]) -> u32 {
     unsafe {
         c::jinqewan_load(

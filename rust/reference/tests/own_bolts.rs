@@ -152,7 +152,7 @@ fn the_least_and_the_greatest_bolts() {
     assert_eq!(alone(work(&ends, &joint)).forces[0], 140);
     joint.column.flange = 61;
     assert_eq!(refusal(&ends, &joint), (14, 0, 0));
-    // nothing is too thick for M64, whose S is 2572240
+    // nothing is too thick for M64 of class 109, whose S is 2572240
     joint.bolts.diameter = 64;
     joint.column.flange = 500;
     joint.face.plate.thickness = 500;

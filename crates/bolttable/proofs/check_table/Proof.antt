@@ -1,13 +1,13 @@
--- `check_table` meets its contract: the count is tried first, and then the least number of any size decides. Assumes nothing.
-use mathlib.Core.Path.{_≡_, sym, ap, _∙_}
+-- `check_table` meets its contract: the count is tried first, and then the sizes. Assumes nothing.
+use mathlib.Core.Path.{_≡_, sym, _∙_}
 use mathlib.Core.Bool.{true}
 use native.Mathlib.Omega.{arith}
 use borrow.Author.Needs.{needs}
-use borrow.Author.Tests.{eq-eqb, ne-eqb, not-true, not-false}
+use borrow.Author.Tests.{not-true, not-false}
 use Rattle.arithmetic.specs.Range.{within}
 use Rattle.arithmetic.proofs.Bounds.{within-yes}
 use Rattle.bolttable.specs.Loading.{sizeCounts}
-use Rattle.bolttable.proofs.Numbers.{checkBy, by-count, by-sizes}
+use Rattle.bolttable.proofs.Checks.{by-count, by-sizes}
 use Rattle.bolttable.proofs.check_table.Statement.{statement}
 use Rattle.bolttable.proofs.check_table.Tie as tie
 
@@ -27,26 +27,14 @@ is-size-count-requires c κs = search needs
 returns : tie.Need-returns
 returns c = by-count _ _ _ (sym (c .before .is-size-count .ensures) ∙ not-true _ (c .if1 .taken))
 
-table-number-requires : tie.Need-table-number-requires
-table-number-requires c κs =
+check-sizes-requires : tie.Need-check-sizes-requires
+check-sizes-requires c κs =
     let s = start (c .before) in
     let few = within-yes sizeCounts (s .args .count) (rw (counted c) tt) .high in
     (omega (arith, s .pre .diameter-places), omega (arith, s .pre .area-places))
 
 returns-2 : tie.Need-returns-2
-unfolding checkBy
-returns-2 c =
-    let one = c .before .before in
-    sym (rw (eq-eqb (c .before .table-number .result) 255 (c .if2 .taken)))
-    ∙ ap checkBy (c .before .table-number .ensures) ∙ by-sizes _ _ _ (counted one)
-
-returns-3 : tie.Need-returns-3
-unfolding checkBy
-returns-3 c =
-    let one = c .before .before in
-    sym (rw (ne-eqb (c .before .table-number .result) 255 (c .if2 .left)))
-    ∙ ap checkBy (c .before .table-number .ensures) ∙ by-sizes _ _ _ (counted one)
+returns-2 c = c .check-sizes .ensures ∙ by-sizes _ _ _ (counted (c .before))
 
 pub check-table-spec : {M : Type 1} → statement M
-check-table-spec =
-    tie.close (tie.spec is-size-count-requires returns table-number-requires returns-2 returns-3)
+check-table-spec = tie.close (tie.spec is-size-count-requires returns check-sizes-requires returns-2)

@@ -3,6 +3,8 @@
 use mathlib.Core.Path.{_≡_, ap, _∙_}
 use Prim.Native.Nat.{suc, _+_, _-_, _*_, _≤_, _<_}
 use native.Mathlib.Omega.{arith}
+use native.Mathlib.Nat.{le-trans}
+use lib.Dec.{lit≤}
 use lib.ListN.{getD}
 use Rattle.arithmetic.proofs.Bounds.{atMost}
 use Rattle.joint.specs.Ranges.{rowCounts}
@@ -106,7 +108,8 @@ is-small : (c : tie.After-group-limit Inv-loop μ-loop) → c .group-limit .resu
 is-small c =
     let l = loop-of (c .before) .loop in
     let s = loop-of (c .before) .before in
-    rw (is-limit c) (limit-small (s .args .d) (l .row) _ _ (s .pre .dimensions) (omega (arith, inside (c .before), few (c .before))))
+    rw (is-limit c)
+    (le-trans (limit-small (s .args .d) (l .row) _ _ (s .pre .dimensions) (omega (arith, inside (c .before), few (c .before)))) (lit≤ tt))
 
 loop-less : tie.Need-loop-less Inv-loop μ-loop
 loop-less c =
