@@ -1,13 +1,11 @@
--- Loading's one pass over a table's sizes: a size in range leaves its own part of each test, and those after it the rest. By the laws of a
--- table's sizes by their places. Assumes nothing.
+-- Loading's one pass over a table's sizes: a size in range leaves its own part of each test, and those after it the rest. Assumes nothing.
 use mathlib.Core.Path.{_≡_, refl, sym, _∙_}
 use mathlib.Core.Bool.{Bool, true, false, _&&_, and-assoc, and-true}
 use mathlib.Core.List.{List, [], _∷_}
-use Prim.Native.Nat.{ℕ, _+_, _≤_, _<_}
+use Prim.Native.Nat.{ℕ}
 use native.Mathlib.Omega.{arith}
 use borrow.Author.Tests.{lt-ltb}
 use lib.Dec.{T, ltb}
-use lib.ListN.{length, getD, drop}
 use mir.Facts.{and-yes}
 use Rattle.arithmetic.specs.Checks.{firstFailing}
 use Rattle.arithmetic.specs.Range.{within}
@@ -16,7 +14,6 @@ use Rattle.bolttable.specs.Loading.{tableRefusals, tableCheck}
 use Rattle.bolttable.specs.Steps.{belowLeast, sizesCheck}
 use Rattle.bolttable.specs.declared.TableCheck.the-variants.{Taken, Refused}
 use Rattle.bolttable.proofs.Areas.{size-ranges}
-use Rattle.bolttable.proofs.Sizes.{sizeAt, sizes-from, sizes-end}
 
 -- ---- a table by its count
 

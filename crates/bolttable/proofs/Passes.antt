@@ -14,7 +14,7 @@ use Rattle.arithmetic.specs.Checks.{firstFailing}
 use Rattle.arithmetic.specs.Range.{Within, within}
 use Rattle.arithmetic.proofs.Bounds.{exactly, _⊗_}
 use Rattle.bolttable.specs.Loading.{Size, boltDiameters, boltAreas, sizeCounts, sizesIn, countedSizes, eachSize, sizeInRange}
-use Rattle.bolttable.specs.Loading.{riseAbove, diametersRise, areaFits, tableRefusals, tableCheck}
+use Rattle.bolttable.specs.Loading.{riseAbove, areaFits, tableRefusals, tableCheck}
 use Rattle.bolttable.specs.Area.{areaAmong, areaOf}
 use Rattle.bolttable.specs.Steps.{belowLeast, mayFollow, areaPassed}
 use Rattle.bolttable.specs.declared.BoltTable.{BoltTable}
