@@ -30,7 +30,7 @@ use Rattle.governing.specs.Cap.{tensionCap, overCompressed}
 use Rattle.verdicts.specs.Bending.{carries}
 use Rattle.verdicts.specs.Bolts.{bearing, idlePair, pullingPair, boltTotal, boltsPass}
 use Rattle.verdicts.specs.Welds.{topRows, flangeWeldBy, webWeldPasses}
-use Rattle.refusals.specs.Refusals.{leversFall, rowsInPlace, tooTight}
+use Rattle.refusals.specs.Refusals.{fallBy, rowsInPlace, tooTight}
 use Rattle.panel.specs.Panel.{governingTotal, panelPasses}
 use Rattle.connection.specs.OneFace.{governingOf, capOf, forcesOf}
 use Rattle.connection.specs.Connection.{refusalsAfter10, resultOf, workedFace, workedConnection}
@@ -52,7 +52,7 @@ unfolding table firstFailing search-from sizesIn riseAbove tableRefusals tableCh
     columnFlangeBending endPlateBending endPlateLimits columnWebTension beamWebLimits groupLimit
     bearingLength beamFlange webBearing bucklingLimit webBuckling reducedNearEnd panelShear resistancesOf
     lesser governingCheck tensionCap overCompressed
-    carries bearing idlePair pullingPair boltTotal boltsPass topRows flangeWeldBy webWeldPasses leversFall rowsInPlace tooTight
+    carries bearing idlePair pullingPair boltTotal boltsPass topRows flangeWeldBy webWeldPasses fallBy rowsInPlace tooTight
     governingTotal panelPasses governingOf capOf forcesOf refusalsAfter10 resultOf workedFace workedConnection
     panelVerdict workedFaces workedWith
     digits spaced resultLine outcomeLines linesWithin sheetLines concatenated

@@ -1,6 +1,6 @@
 -- The checked joints of rules 14: for each, what the definitions give and what it is stated to be.
 -- Assumes nothing.
-use Prim.Native.Nat.{ℕ}
+use Prim.Native.Nat.{ℕ, _*_}
 use mathlib.Core.Bool.{cond}
 use mathlib.Core.List.{List, [], _∷_, _++_}
 use lib.ListN.{take, replicate}
@@ -144,19 +144,23 @@ checked-H = record {
   stated = 0xAC ∷ 0x02 ∷ 0 ∷ 300 ∷ 2 ∷ [];
 }
 
--- I: its face with field 1 and an axial force N, its column, and the joint
-face-I : (count : ℕ) (axial : ℤ) → Face
-face-I count axial = record {
+-- I: its face by fields 1 and 2, N and the first two levers, ex 500 if extended; its column; the joint
+face-I-rows : (count extended : ℕ) (axial : ℤ) (first second : ℕ) → Face
+face-I-rows count extended axial first second = record {
   rows = count;
-  extended = 0;
+  extended = extended;
   beam = record { grade = 275; depth = 3071; width = 1657; flange = 118; web = 67 };
   plate = record { grade = 275; width = 2000; thickness = 200 };
-  layout = record { gauge = 900; edge = 0; alpha = 600 };
+  layout = record { gauge = 900; edge = 500 * extended; alpha = 600 };
   welds = record { flange = 80; web = 60; length = 2000 };
   «shear_rows» = 1;
   loads = record { axial = axial; shear = 57000; moment = 50000 };
-  levers = 2400 ∷ 0 ∷ 0 ∷ 0 ∷ 0 ∷ 0 ∷ 0 ∷ 0 ∷ [];
+  levers = first ∷ second ∷ 0 ∷ 0 ∷ 0 ∷ 0 ∷ 0 ∷ 0 ∷ [];
 }
+
+face-I : (count : ℕ) (axial : ℤ) → Face
+unfolding face-I-rows
+face-I count axial = face-I-rows count 0 axial 2400 0
 
 column-I : Column
 column-I = record {
@@ -170,19 +174,19 @@ column-I = record {
   «end_distance» = 15000;
 }
 
--- with bolts of a diameter
-joint-I-bolts : (diameter : ℕ) → ℤ → Joint
-unfolding face-I column-I
-joint-I-bolts diameter axial = record {
+-- with one face and bolts of a diameter
+joint-I-face : (diameter : ℕ) → Face → Joint
+unfolding column-I
+joint-I-face diameter face = record {
   column = column-I;
   bolts = record { class = 88; diameter = diameter };
-  face = face-I 1 axial;
+  face = face;
   other = secondFaceOf (noPart .fields) (noPart .levers);
 }
 
 joint-I : ℤ → Joint
-unfolding joint-I-bolts
-joint-I axial = joint-I-bolts 20 axial
+unfolding joint-I-face face-I
+joint-I axial = joint-I-face 20 (face-I 1 axial)
 
 -- I's file of either kind
 file-I : FileKind → List ℕ
@@ -287,9 +291,9 @@ checked-loading = record {
 
 -- I with a bolt table and a diameter: refusal, field, and the first row's force
 own-I : BoltTable → (diameter : ℕ) → List ℕ
-unfolding joint-I-bolts
+unfolding joint-I-face face-I
 own-I table diameter =
-    let outcome = worked table (joint-I-bolts diameter (pos 0)) in
+    let outcome = worked table (joint-I-face diameter (face-I 1 (pos 0))) in
     outcome .refusal .number ∷ outcome .refusal .field ∷ take 1 (outcome .result .forces)
 
 -- M20 as built in, M22, a diameter that the table doesn't have, and M22 of a table that loading refuses
@@ -301,9 +305,25 @@ checked-I-own = record {
   stated = (0 ∷ 0 ∷ 219345 ∷ []) ++ (0 ∷ 0 ∷ 255434 ∷ []) ++ (10 ∷ 4 ∷ 0 ∷ []) ++ (10 ∷ 4 ∷ 0 ∷ []);
 }
 
+-- I with two rows at these levers: the refusal
+pair-I : (extended first second : ℕ) → List ℕ
+unfolding joint-I-face face-I-rows
+pair-I extended first second =
+    worked builtIn (joint-I-face 20 (face-I-rows 2 extended (pos 0) first second)) .refusal .number ∷ []
+
+-- rows 25δ = 500 apart, and 499; equal levers, which are too close as well; 499 apart with the first row out of place; and with the first
+-- above the flange, 500 and 499 apart
+checked-I-apart : Checked
+unfolding pair-I
+checked-I-apart = record {
+  given = pair-I 0 2400 1900 ++ pair-I 0 2400 1901 ++ pair-I 0 2400 2400 ++ pair-I 0 2894 2395 ++ pair-I 1 3393 2893 ++ pair-I 1 3392 2893;
+  stated = 0 ∷ 19 ∷ 11 ∷ 19 ∷ 0 ∷ 19 ∷ [];
+}
+
 unfoldable pub table : List Checked
 unfolding checked-A checked-B checked-C checked-D checked-E checked-F checked-G checked-H checked-I checked-I-pushed checked-I-file
-    checked-I-both checked-I-panel checked-loading checked-I-own
+    checked-I-both checked-I-panel checked-loading checked-I-own checked-I-apart
 table =
     checked-A ∷ checked-B ∷ checked-C ∷ checked-D ∷ checked-E ∷ checked-F ∷ checked-G ∷ checked-H
-    ∷ checked-I ∷ checked-I-pushed ∷ checked-I-file ∷ checked-I-both ∷ checked-I-panel ∷ checked-loading ∷ checked-I-own ∷ []
+    ∷ checked-I ∷ checked-I-pushed ∷ checked-I-file ∷ checked-I-both ∷ checked-I-panel ∷ checked-loading ∷ checked-I-own
+    ∷ checked-I-apart ∷ []

@@ -37,7 +37,7 @@ neither true b e = let never : _≡_ {A = ℕ} 0 1 = cc in absurd (omega arith)
 -- what refusals 10, 11 and 13 leave
 pub admissible : (column : Column) (face : Face) → ColumnInRange column → FaceInRange face → length (face .levers) ≡ rowCounts .high
     → leversFall face ≡ true → tooTight (face .extended) (spacingOf column face) ≡ false → Admissible column face
-unfolding leversFall tooTight
+unfolding tooTight
 admissible column face c f eight falling loose =
     let past-column = neither _ _ loose in
     let past-plate = neither _ _ (past-column .1) in

@@ -21,7 +21,7 @@ use Rattle.spacing.specs.Spacing.{spacingOf}
 use Rattle.governing.specs.Governing.{forceOf}
 use Rattle.governing.specs.Cap.{overCompressed, newtonsOf}
 use Rattle.governing.specs.declared.CompressionCheck.the-variants.{Flange}
-use Rattle.refusals.specs.Refusals.{leversFall, rowsInPlace, tooTight}
+use Rattle.refusals.specs.Refusals.{leversFall, rowsApart, rowsInPlace, tooTight}
 use Rattle.connection.specs.OneFace.{boltOf, steelOf, governingOf, capOf, forcesOf, momentOf, verdictsOf}
 use Rattle.outcome.specs.declared.FaceResult.{FaceResult}
 use Rattle.outcome.specs.declared.FaceOutcome.{FaceOutcome}
@@ -46,10 +46,11 @@ refusedFace number field = record { number = number; field = field; result = noR
 abbrev pub refusedAfter10 : (number : ℕ) → FaceOutcome
 refusedAfter10 number = refusedFace number 0
 
--- rules 11.3 to 11.7: the refusals after 10 in their order, each number with the test that lets a face pass
+-- rules 11.3 to 11.7 and 11.10: the refusals after 10 in their order, each number with the test that lets a face pass
 unfoldable pub refusalsAfter10 : (panelCounts : Bool) → Column → BoltStrengths → Face → List Check
 refusalsAfter10 panelCounts column bolt face =
     (11, leversFall face)
+    ∷ (19, rowsApart (bolt .diameter) face)
     ∷ (12, rowsInPlace face)
     ∷ (13, not (tooTight (face .extended) (spacingOf column face)))
     ∷ (14, not (bothTooThick column (face .plate) (steelOf column face) bolt))

@@ -40,7 +40,7 @@ pub struct Measures {
     pub steel: SteelStrengths,
 }
 
-// Whether a face passes refusals 11 to 14, or the number of the first that it doesn't.
+// Whether a face passes the refusals tried after 10 and before 15, or the number of the first that it doesn't.
 pub enum Admission {
     Admitted,
     Refused(u32),
@@ -121,7 +121,7 @@ fn measures_of(column: Column, face: Face) -> Measures
     }
 }
 
-// The refusals between 10 and 15.
+// The refusals tried after 10 and before 15.
 fn admit(column: Column, bolt: BoltStrengths, face: Face, measures: Measures) -> Admission
     requires { ⌜ AdmitAsked column bolt face measures ⌝ }
     ensures { λ r. ⌜ ((panelCounts : Bool)
@@ -129,8 +129,12 @@ fn admit(column: Column, bolt: BoltStrengths, face: Face, measures: Measures) ->
     ensures { λ _. ⌜ length (face .levers) ≡ rowCounts .high ⌝ }
 {
     let levers = face.levers;
-    if !refusals::levers_fall(face.rows as usize, levers) {
+    let pitch = refusals::least_pitch(face.rows as usize, levers);
+    if pitch < 1 {
         return Admission::Refused(11);
+    }
+    if pitch < 25 * bolt.diameter {
+        return Admission::Refused(19);
     }
     if !refusals::rows_in_place(face) {
         return Admission::Refused(12);

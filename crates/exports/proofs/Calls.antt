@@ -139,15 +139,18 @@ module _ (fields buffer : List ℕ) (size : ℕ) (room : jointWordCount ≤ leng
       ap (λ (bytes : List ℕ). answers number (record { bytes = bytes; size = size })) (untouched .kept)
       ∙ answer-refused _ _ _ (le-leb jointWordCount (length fields) room) (ap (λ (w : Writing). w .refusal) down) (untouched .some)
 
--- ---- Work: a refusal has a number up to 15, a field up to that of the last lever, and a face up to 2
+-- ---- Work: a refusal has a number up to 19, a field up to that of the last lever, and a face up to 2
+
+abbrev mostNumber : ℕ
+mostNumber = 19
 
 pub record Small (refusal : Refusal) : Type 0 where
-  pub number : refusal .number ≤ 15
+  pub number : refusal .number ≤ mostNumber
   pub field : refusal .field ≤ firstWordCount
   pub face : refusal .face ≤ 2
 
 pub record FaceSmall (outcome : FaceOutcome) : Type 0 where
-  pub number : outcome .number ≤ 15
+  pub number : outcome .number ≤ mostNumber
   pub field : outcome .field ≤ firstWordCount
 
 levers-within : (n row : ℕ) (levers : List ℕ) → row + length levers ≤ 8 → allWithin 1 firstWordCount (leverChecks n row levers) ≡ true
@@ -171,7 +174,7 @@ module _ (panelCounts : Bool) (column : Column) (bolts : Bolts) (area : BoltArea
   face-small : FaceSmall (workedFace panelCounts column (boltOf bolts area) face)
   unfolding workedFace refusalsAfter10 allWithin
   face-small =
-      by-number FaceSmall 11 15 _ refusedAfter10 _ refl (record { number = omega arith; field = omega arith })
+      by-number FaceSmall 11 mostNumber _ refusedAfter10 _ refl (record { number = omega arith; field = omega arith })
       (λ number low high. record { number = high; field = omega arith })
 
   connection-small : length (face .levers) ≡ 8 → FaceSmall (workedConnection panelCounts column bolts area face)

@@ -1,29 +1,44 @@
-// Work's refusals 11, 12 and 13, asked one at a time: levers that fall, rows in place, and bolts far enough from web, weld and edge.
-// Rows count from 0. Work calls these for faces whose fields are in range.
+// What Work's refusals 11, 19, 12 and 13 ask of a face: levers that fall and rows far enough apart, both by the least pitch; rows in
+// place; and bolts far enough from web, weld and edge. Rows count from 0. Work calls these for faces whose fields are in range.
 ghost use mathlib.Core.Path.{_≡_};
-ghost use Prim.Native.Nat.{ℕ, _≤_};
+ghost use Prim.Native.Nat.{ℕ, _-_, _≤_};
+ghost use lib.Dec.{leb};
 ghost use lib.ListN.{length, getD, take};
+ghost use Rattle.arithmetic.specs.Range.{Within, _to_};
 ghost use Rattle.arithmetic.specs.Table.{every};
 ghost use Rattle.joint.specs.Ranges.{rowCounts, mostLever};
-ghost use Rattle.refusals.specs.Refusals.{belowAbove, inPlace, rowsInPlace, tooTight};
+ghost use Rattle.refusals.specs.Refusals.{fallBy, inPlace, rowsInPlace, tooTight};
 ghost use Rattle.refusals.specs.Steps.{PlacesInRange};
+use arithmetic::least;
 use joint::Face;
 use spacing::Spacing;
 
-// Every lever but the first is below the one above it. That the array has eight levers is promised too: of an array that is a field the
-// caller doesn't know it.
-pub fn levers_fall(rows: usize, levers: [u32; 8]) -> bool
+// The least pitch of so many rows: how far a lever is below the one above it, 0 where one isn't below. It tells of every distance from 1
+// to the greatest lever whether the levers fall by it. One row has no pitch, and answers the greatest lever. That the array has eight
+// levers is promised too: of an array that is a field the caller doesn't know it.
+pub fn least_pitch(rows: usize, levers: [u32; 8]) -> u64
     requires { ⌜ rows ≤ rowCounts .high ⌝ }
-    ensures { λ r. ⌜ (r ≡ every (belowAbove levers) 0 (take rows levers)) × (length levers ≡ rowCounts .high) ⌝ }
+    ensures { λ r. ⌜ ((distance : ℕ) → Within (1 to mostLever) distance → fallBy distance rows levers ≡ leb distance r) ⌝ }
+    ensures { λ _. ⌜ length levers ≡ rowCounts .high ⌝ }
 {
+    let mut pitch = 20000;
     let mut row = 1;
     while row < rows {
-        if levers[row - 1] <= levers[row] {
-            return false;
-        }
+        pitch = least(pitch, pitch_of(levers[row - 1], levers[row]));
         row += 1;
     }
-    true
+    pitch
+}
+
+// How far a lever is below the one above it.
+fn pitch_of(above: u32, lever: u32) -> u64
+    ensures { λ r. ⌜ r ≡ above - lever ⌝ }
+{
+    if lever < above {
+        (above - lever) as u64
+    } else {
+        0
+    }
 }
 
 // Extended row 1 stands over the beam, every other row under its flange.

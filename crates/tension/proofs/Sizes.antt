@@ -39,7 +39,7 @@ use Rattle.tension.specs.declared.Dimensions.{Dimensions}
 pub plate-side-le : (d : Dimensions) → DimensionsWithin d → (i : ℕ) → plateSideBy d i ≤ mostPattern
 plate-side-le d w i = cond-le (eqb i (d .first)) _ _ mostPattern (w .near-flange .high) (w .plate-lengths .side .high)
 
--- The distances and strengths of a face that refusals 10 to 13 let pass.
+-- The distances and strengths of a face that refusals 10, 11 and 13 let pass.
 pub record Sizes (spacing : Spacing) (steel : SteelStrengths) : Type 0 where
   pub column : Within boltDistances (spacing .column)
   pub plate : Within boltDistances (spacing .plate)

@@ -22,7 +22,7 @@ use Rattle.tension.specs.declared.Dimensions.{Dimensions}
 abbrev pub tablePlaces : ℕ
 tablePlaces = 36
 
--- What refusals 10, 11 and 13 leave of a face on its column; the limits need nothing of 12.
+-- What refusals 10, 11 and 13 leave of a face on its column; the limits need nothing of 19 and 12.
 pub record Admissible (c : Column) (f : Face) : Type 0 where
   -- refusal 10
   pub column : ColumnInRange c

@@ -1,5 +1,5 @@
 // The tension side: the limit of every group of bolt rows (rules 4). Rows count from 0.
-// Lengths are in hundredths of a millimetre. Work calls these for joints that refusals 10 to 13 let pass.
+// Lengths are in hundredths of a millimetre. Work calls these for joints that refusals 10, 11 and 13 let pass.
 ghost use mathlib.Core.Path.{_≡_};
 ghost use Prim.Native.Nat.{_*_, _≤_};
 ghost use mathlib.Core.Bool.{cond};

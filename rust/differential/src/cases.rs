@@ -2,9 +2,9 @@
 
 use crate::tally::Tally;
 use reference::{
-    greatest_area, panel_shear, BoltTable, Check, Column, Face, FaceResult, FileKind, Joint,
-    JointResult, LoadRefusal, OtherResult, ReadRefusal, Trouble, Verdicts, WorkRefusal,
-    WriteRefusal, LONGEST_INPUT, ROWS, SECOND_FACE, SIZES,
+    greatest_area, minimum_pitch, panel_shear, BoltTable, Check, Column, Face, FaceResult,
+    FileKind, Joint, JointResult, LoadRefusal, OtherResult, ReadRefusal, Trouble, Verdicts,
+    WorkRefusal, WriteRefusal, LONGEST_INPUT, ROWS, SECOND_FACE, SIZES,
 };
 
 // ---- Work
@@ -12,7 +12,7 @@ use reference::{
 pub fn count_worked(joint: &Joint, worked: &Result<JointResult, WorkRefusal>, tally: &mut Tally) {
     let result = match worked {
         Ok(result) => result,
-        Err(refusal) => return count_refusal(refusal, tally),
+        Err(refusal) => return count_refusal(joint, refusal, tally),
     };
     let Some(other) = &result.other else {
         tally.count("work: worked");
@@ -23,16 +23,21 @@ pub fn count_worked(joint: &Joint, worked: &Result<JointResult, WorkRefusal>, ta
         return count_face(joint, &joint.face, &result.face, tally);
     };
     tally.count("work, two faces: worked");
-    tally.count_rows(1, joint.first_of_two().rows);
+    let first = joint.first_of_two();
+    tally.count_rows(1, first.rows);
     tally.count_rows(2, joint.other.rows);
-    count_face(joint, &joint.face, &result.face, tally);
+    count_face(joint, &first, &result.face, tally);
     count_face(joint, &joint.other, &other.face, tally);
     count_panel(joint, &result.face, other, tally);
 }
 
-fn count_refusal(refusal: &WorkRefusal, tally: &mut Tally) {
-    if let Trouble::Field(field) = refusal.trouble {
-        tally.count_field(refusal.face, field);
+fn count_refusal(joint: &Joint, refusal: &WorkRefusal, tally: &mut Tally) {
+    match refusal.trouble {
+        Trouble::Field(field) => tally.count_field(refusal.face, field),
+        Trouble::RowsTooClose => {
+            count_too_close(joint.bolts.diameter, &refused_face(joint, refusal), tally)
+        }
+        _ => {}
     }
     tally.count(match refusal.face {
         0 => refusal_case(refusal.trouble),
@@ -41,10 +46,54 @@ fn count_refusal(refusal: &WorkRefusal, tally: &mut Tally) {
     });
 }
 
+/// As it is worked, without the mark of a second.
+fn refused_face(joint: &Joint, refusal: &WorkRefusal) -> Face {
+    match refusal.face {
+        0 => joint.face,
+        1 => joint.first_of_two(),
+        _ => joint.other,
+    }
+}
+
+/// How far each row is below the one above it; the levers fall.
+fn pitches(face: &Face) -> Vec<u32> {
+    let levers = &face.levers[..face.row_count()];
+    levers.windows(2).map(|pair| pair[0] - pair[1]).collect()
+}
+
+fn count_too_close(diameter: u32, face: &Face, tally: &mut Tally) {
+    let least = minimum_pitch(diameter);
+    let pitches = pitches(face);
+    if pitches.iter().min() == Some(&(least - 1)) {
+        tally.count("work: rows one step closer than 25δ");
+    }
+    if face.is_extended() && pitches[1..].iter().all(|&pitch| pitch >= least) {
+        tally.count("work: only the extension row too close");
+    }
+    let under_flange = &face.levers[face.extended as usize..face.row_count()];
+    let is_out_of_place = |lever: &u32| 2 * lever + 3 * face.beam.flange >= 2 * face.beam.depth;
+    if under_flange.iter().any(is_out_of_place) {
+        tally.count("work: 19 before 12");
+    }
+}
+
+/// Rows as close as they may stand.
+fn count_apart(diameter: u32, face: &Face, tally: &mut Tally) {
+    let least = minimum_pitch(diameter);
+    let pitches = pitches(face);
+    if pitches.contains(&least) {
+        tally.count("work: rows 25δ apart");
+    }
+    if face.is_extended() && pitches.first() == Some(&least) {
+        tally.count("work: extension row 25δ from the next");
+    }
+}
+
 fn refusal_case(trouble: Trouble) -> &'static str {
     match trouble {
         Trouble::Field(_) => "work: refusal 10",
         Trouble::LeverOrder => "work: refusal 11",
+        Trouble::RowsTooClose => "work: refusal 19",
         Trouble::RowPlace => "work: refusal 12",
         Trouble::TooTight => "work: refusal 13",
         Trouble::TooThick => "work: refusal 14",
@@ -56,6 +105,7 @@ fn refusal_case_of_first(trouble: Trouble) -> &'static str {
     match trouble {
         Trouble::Field(_) => "work, two faces: refusal 10 of the first",
         Trouble::LeverOrder => "work, two faces: refusal 11 of the first",
+        Trouble::RowsTooClose => "work, two faces: refusal 19 of the first",
         Trouble::RowPlace => "work, two faces: refusal 12 of the first",
         Trouble::TooTight => "work, two faces: refusal 13 of the first",
         Trouble::TooThick => "work, two faces: refusal 14 of the first",
@@ -67,6 +117,7 @@ fn refusal_case_of_second(trouble: Trouble) -> &'static str {
     match trouble {
         Trouble::Field(_) => "work, two faces: refusal 10 of the second",
         Trouble::LeverOrder => "work, two faces: refusal 11 of the second",
+        Trouble::RowsTooClose => "work, two faces: refusal 19 of the second",
         Trouble::RowPlace => "work, two faces: refusal 12 of the second",
         Trouble::TooTight => "work, two faces: refusal 13 of the second",
         Trouble::TooThick => "work, two faces: refusal 14 of the second",
@@ -89,6 +140,7 @@ fn count_face(joint: &Joint, face: &Face, result: &FaceResult, tally: &mut Tally
     if result.sum == result.cap {
         tally.count("work: limited by the cap");
     }
+    count_apart(joint.bolts.diameter, face, tally);
     count_column_end(&joint.column, result.check, tally);
     count_verdicts(&result.verdicts, tally);
 }
@@ -176,6 +228,9 @@ pub fn count_own_table(
         Ok(_) => tally.count("work, own table: worked"),
         Err(refusal) if refusal.trouble == Trouble::Field(4) => {
             count_unlisted(table, joint.bolts.diameter, tally);
+        }
+        Err(refusal) if refusal.trouble == Trouble::RowsTooClose => {
+            tally.count("work, own table: refusal 19");
         }
         Err(_) => {}
     }

@@ -1,5 +1,5 @@
-//! Document 01, and the rules for joints near the column end, for a beam on both faces and for bolt tables, read in plain Rust. It was
-//! written from the papers, with the signatures of the proved calls and some of their bodies known.
+//! Document 01, and the rules for joints near the column end, for a beam on both faces, for bolt tables and for rows too close, read in
+//! plain Rust. It was written from the papers, with the signatures of the proved calls and some of their bodies known.
 //! Rows count from 0 here, from 1 in the rules.
 
 mod bolt_table;
@@ -25,4 +25,4 @@ pub use joint::{
 pub use outcome::{Check, FaceResult, JointResult, OtherResult, Trouble, Verdicts, WorkRefusal};
 pub use sharing::{allocate, AllocateRefusal, GROUPS};
 pub use sheet::{sheet, LONGEST_INPUT};
-pub use work::work;
+pub use work::{minimum_pitch, work};

@@ -71,6 +71,7 @@ pub enum Trouble {
     /// with the number of the first field out of range
     Field(u32),
     LeverOrder,
+    RowsTooClose,
     RowPlace,
     TooTight,
     TooThick,
@@ -82,6 +83,7 @@ impl WorkRefusal {
         match self.trouble {
             Trouble::Field(_) => 10,
             Trouble::LeverOrder => 11,
+            Trouble::RowsTooClose => 19,
             Trouble::RowPlace => 12,
             Trouble::TooTight => 13,
             Trouble::TooThick => 14,

@@ -72,6 +72,9 @@ fn work_face(
     if !levers_fall(face) {
         return Err(Trouble::LeverOrder);
     }
+    if !rows_apart(face, bolts) {
+        return Err(Trouble::RowsTooClose);
+    }
     if !rows_in_place(face) {
         return Err(Trouble::RowPlace);
     }
@@ -117,6 +120,18 @@ fn row_forces(
 fn levers_fall(face: &Face) -> bool {
     let levers = &face.levers[..face.row_count()];
     levers.windows(2).all(|pair| pair[1] < pair[0])
+}
+
+/// Refusal 19: of levers that fall, neighbours differ by 25δ or more.
+fn rows_apart(face: &Face, bolts: &Bolts) -> bool {
+    let levers = &face.levers[..face.row_count()];
+    let least = minimum_pitch(bolts.diameter);
+    levers.windows(2).all(|pair| pair[0] - pair[1] >= least)
+}
+
+/// 25δ, in tenths of a millimetre, for δ in millimetres.
+pub fn minimum_pitch(diameter: u32) -> u32 {
+    25 * diameter
 }
 
 /// Refusal 12: an extended row 1 stands above the beam flange, every other row below it.

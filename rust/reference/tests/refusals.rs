@@ -309,8 +309,37 @@ fn work_11_lever_order() {
             joint.face.levers = levers(2400, lever);
         })
     };
-    assert!(work(&second(2399)).is_ok());
+    assert_eq!(work(&second(2399)), Err(Trouble::RowsTooClose));
     assert_eq!(work(&second(2400)), Err(Trouble::LeverOrder));
+    assert_eq!(work(&second(2401)), Err(Trouble::LeverOrder));
+}
+
+#[test]
+fn work_19_rows_too_close() {
+    // M20: 25δ = 500
+    let second = |lever| {
+        with(|joint| {
+            joint.face.rows = 2;
+            joint.face.levers = levers(2400, lever);
+        })
+    };
+    assert!(work(&second(1900)).is_ok());
+    assert_eq!(work(&second(1901)), Err(Trouble::RowsTooClose));
+    // an extension row and the one below it
+    let extension = |lever| extended(|face| face.levers = levers(lever, 2893));
+    assert!(work(&extension(3393)).is_ok());
+    assert_eq!(work(&extension(3392)), Err(Trouble::RowsTooClose));
+    // the last pair of eight
+    let eighth = |lever| {
+        with(|joint| {
+            joint.bolts.diameter = 12;
+            joint.face.plate.thickness = 100;
+            joint.face.rows = 8;
+            joint.face.levers = [2800, 2500, 2200, 1900, 1600, 1300, 1000, lever];
+        })
+    };
+    assert!(work(&eighth(700)).is_ok());
+    assert_eq!(work(&eighth(701)), Err(Trouble::RowsTooClose));
 }
 
 #[test]
@@ -380,9 +409,11 @@ fn work_refuses_in_order() {
     assert_eq!(work(&joint), Err(Trouble::Field(22)));
     joint.face.layout.alpha = 600;
     assert_eq!(work(&joint), Err(Trouble::LeverOrder));
+    joint.face.levers = levers(9000, 8999);
+    assert_eq!(work(&joint), Err(Trouble::RowsTooClose));
     joint.face.levers = levers(9000, 2400);
     assert_eq!(work(&joint), Err(Trouble::RowPlace));
-    joint.face.levers = levers(2500, 2400);
+    joint.face.levers = levers(2500, 1000);
     assert_eq!(work(&joint), Err(Trouble::TooTight));
     joint.face.layout.gauge = 900;
     assert_eq!(work(&joint), Err(Trouble::TooThick));

@@ -136,9 +136,12 @@ fn the_first_face_in_trouble_is_told_first() {
     joint.other.rows = 2;
     joint.other.levers[1] = 2400;
     assert_eq!(refusal(&joint), (11, 0, 2));
-    joint.other.levers = [2894, 2400, 0, 0, 0, 0, 0, 0];
+    joint.other.levers = [2894, 2395, 0, 0, 0, 0, 0, 0];
+    assert_eq!(refusal(&joint), (19, 0, 2));
+    joint.other.levers[1] = 2394;
     assert_eq!(refusal(&joint), (12, 0, 2));
-    joint.other.levers[0] = 2500;
+    joint.other.levers[0] = 2893;
+    joint.other.levers[1] = 2393;
     joint.other.layout.gauge = 399;
     assert_eq!(refusal(&joint), (13, 0, 2));
     joint.other.layout.gauge = 900;

@@ -3,7 +3,7 @@
 use crate::random::Random;
 use crate::two_faces::{any_two_faced_joint, unread_face};
 use reference::{
-    work, Beam, BoltTable, Bolts, Column, Face, Joint, Layout, Loads, Plate, Welds,
+    minimum_pitch, work, Beam, BoltTable, Bolts, Column, Face, Joint, Layout, Loads, Plate, Welds,
     ONE_FACED_FIELDS,
 };
 
@@ -43,7 +43,7 @@ pub fn sensible_joint(random: &mut Random, table: &BoltTable, rows: u32) -> Join
     };
     thin_one_part(random, &mut joint);
     joint.face.layout.gauge = gauge(random, &joint.column, &joint.face);
-    place_rows(random, &mut joint.face);
+    place_rows(random, joint.bolts.diameter, &mut joint.face);
     joint
 }
 
@@ -181,14 +181,15 @@ fn any_one_faced_joint(random: &mut Random, table: &BoltTable) -> Joint {
     joint
 }
 
-/// A field at or past an end of its range, rows out of order or out of place, bolts too tight, or parts too thick.
+/// A field at or past an end of its range, rows out of order, too close or out of place, bolts too tight, or parts too thick.
 pub fn trouble(random: &mut Random, table: &BoltTable, joint: &mut Joint) {
-    match random.below(7) {
+    match random.below(8) {
         0 | 1 => shift_field(random, table, joint, false),
         2 => shift_field(random, table, joint, true),
         3 => swap_levers(random, &mut joint.face),
-        4 => move_row(random, &mut joint.face),
-        5 => tighten(random, joint),
+        4 => close_up(random, joint.bolts.diameter, &mut joint.face),
+        5 => move_row(random, &mut joint.face),
+        6 => tighten(random, joint),
         _ => thicken(random, joint),
     }
 }
@@ -238,27 +239,49 @@ fn load(random: &mut Random, most: u32) -> u32 {
     }
 }
 
-/// Levers that fall, the first above the flange if extended, the others below it.
-pub fn place_rows(random: &mut Random, face: &mut Face) {
+/// Levers that fall, mostly by 25δ or more, the first above the flange if extended, the others below it.
+pub fn place_rows(random: &mut Random, diameter: u32, face: &mut Face) {
     let rows = face.row_count();
-    let beam = &face.beam;
+    let places = rows as u32 + 1 - face.extended;
+    deepen(random, minimum_pitch(diameter) * places, &mut face.beam);
+    let highest = (2 * face.beam.depth - 3 * face.beam.flange - 1) / 2;
+    let pitch = minimum_pitch(diameter).min(highest / places);
+    let lowest = (highest - highest / 4).max(pitch * (places - 1));
+    let mut lever = random.between(lowest, highest);
     let mut levers = Vec::new();
     if face.is_extended() {
-        // mx is 500 or more from here on
-        let clear = (500 + 8 * face.welds.flange).div_ceil(5);
-        let least = (2 * beam.depth - beam.flange + clear).div_ceil(2);
-        let most = (least + 2500).min(20000);
-        levers.push(random.between(least.min(20000), most));
+        let apart = lever + minimum_pitch(diameter);
+        levers.push(extension_lever(random, face, apart));
     }
-    let below = (2 * beam.depth - 3 * beam.flange - 1) / 2;
-    let mut lever = random.between(below - below / 4, below);
     while levers.len() < rows {
-        levers.push(lever.max(1));
+        levers.push(lever);
         let left = (rows - levers.len()) as u32;
-        let step = (lever / (left + 2)).max(1);
-        lever = lever.saturating_sub(random.between(1, step));
+        let spare = lever.saturating_sub(left * pitch) / (left + 2);
+        let more = random.pick(&[0, 1, spare, spare]);
+        lever = lever.saturating_sub(pitch + random.between(0, more));
     }
     face.levers[..rows].copy_from_slice(&levers);
+}
+
+/// Mostly makes a beam deeper that has no room for rows over this span.
+fn deepen(random: &mut Random, span: u32, beam: &mut Beam) {
+    let least = (span + 2 * beam.flange).min(15000);
+    if beam.depth < least && !random.one_in(16) {
+        beam.depth = random.between(least, 15000);
+    }
+}
+
+/// A lever that leaves mx 500 or more, and mostly is `apart` or more.
+fn extension_lever(random: &mut Random, face: &Face, apart: u32) -> u32 {
+    let clear = (500 + 8 * face.welds.flange).div_ceil(5);
+    let least = (2 * face.beam.depth - face.beam.flange + clear).div_ceil(2);
+    let least = if random.one_in(16) {
+        least
+    } else {
+        least.max(apart)
+    };
+    let spread = random.pick(&[0, 2500, 2500]);
+    random.between(least, least + spread).min(20000)
 }
 
 /// One field at an end of its range, or one past it, or anywhere.
@@ -307,6 +330,16 @@ fn swap_levers(random: &mut Random, face: &mut Face) {
     let row = random.between(1, face.rows - 1) as usize;
     let above = face.levers[row - 1];
     face.levers[row] = above + random.between(0, 1);
+}
+
+/// A row 25δ below the one above it, or one step less; under an extension row it may then stand out of place.
+fn close_up(random: &mut Random, diameter: u32, face: &mut Face) {
+    if face.rows < 2 {
+        return;
+    }
+    let row = random.between(1, face.rows - 1) as usize;
+    let pitch = minimum_pitch(diameter) - random.between(0, 1);
+    face.levers[row] = face.levers[row - 1].saturating_sub(pitch).max(1);
 }
 
 /// Row 1, or the one under the flange, at the flange's edge or one past it.

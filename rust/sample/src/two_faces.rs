@@ -12,7 +12,7 @@ pub fn sensible_two_faced_joint(random: &mut Random, table: &BoltTable, rows: [u
     let mut other = face(random, rows[1]);
     thin_plate(random, &joint, &mut other);
     other.layout.gauge = gauge(random, &joint.column, &other);
-    place_rows(random, &mut other);
+    place_rows(random, joint.bolts.diameter, &mut other);
     joint.other = other;
     joint
 }
