@@ -81,6 +81,12 @@ module _ (rows : ℕ) (levers : List ℕ) (distance : ℕ) where
       ∙ sym (and-assoc (leb distance pitch) (leb distance (above - lever)) rest)
       ∙ ap (λ b. b && rest) (sym (of-lesser distance pitch (above - lever)))
 
+  -- with a pitch of 0 the rows left don't count
+  pub no-pitch : (row : ℕ) → 0 < distance → tells rows levers 0 row distance ≡ leb distance 0
+  no-pitch row positive =
+      let none = lt-leb distance 0 positive in
+      ap (λ b. b && every (belowAboveBy distance levers) row (drop row (take rows levers))) none ∙ sym none
+
   -- past the last row
   pub all-pitches : (few : rows ≤ length levers) (pitch row : ℕ) → rows ≤ row → tells rows levers pitch row distance ≡ leb distance pitch
   all-pitches few pitch row h =

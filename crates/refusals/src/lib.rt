@@ -24,7 +24,11 @@ pub fn least_pitch(rows: usize, levers: [u32; 8]) -> u64
     let mut pitch = 20000;
     let mut row = 1;
     while row < rows {
-        pitch = least(pitch, pitch_of(levers[row - 1], levers[row]));
+        let next = pitch_of(levers[row - 1], levers[row]);
+        if next == 0 {
+            return 0;
+        }
+        pitch = least(pitch, next);
         row += 1;
     }
     pitch

@@ -3,12 +3,12 @@
 use mathlib.Core.Path.{_≡_, sym, ap, _∙_}
 use Prim.Native.Nat.{ℕ, min, _+_, _-_, _<_}
 use native.Mathlib.Omega.{arith}
-use lib.ListN.{length, getD}
+use lib.ListN.{length}
 use borrow.Author.Needs.{needs}
 use Rattle.arithmetic.specs.Range.{Within, _to_}
 use Rattle.joint.specs.Ranges.{rowCounts, mostLever}
 use Rattle.refusals.specs.Refusals.{fallBy}
-use Rattle.refusals.proofs.Rows.{tells, before-pitches, next-pitch, all-pitches}
+use Rattle.refusals.proofs.Rows.{tells, before-pitches, next-pitch, no-pitch, all-pitches}
 use Rattle.refusals.proofs.least_pitch.Statement.{statement}
 use Rattle.refusals.proofs.least_pitch.Tie as tie
 
@@ -24,10 +24,21 @@ abbrev μ-loop : tie.MeasureT-loop
 loop-holds : tie.Need-loop-holds Inv-loop μ-loop
 loop-holds c = (omega arith, (λ distance within. before-pitches _ _ distance (within .high)), omega arith)
 
--- ---- the place of a turn
+-- ---- the place of a turn, and what the rows tell once its pitch is known
 
-abbrev turn : tie.After-least Inv-loop μ-loop → tie.At-loop Inv-loop μ-loop
-turn c = c .before .before .before
+abbrev turn : tie.After-pitch-of Inv-loop μ-loop → tie.At-loop Inv-loop μ-loop
+turn c = c .before .before
+
+told : (c : tie.After-pitch-of Inv-loop μ-loop) (distance : ℕ) → Within (1 to mostLever) distance
+    → let a = turn c .before .args in
+    let l = turn c .loop in
+    fallBy distance (a .rows) (a .t2) ≡ tells (a .rows) (a .t2) (min (l .pitch) (c .pitch-of .result)) (l .row + 1) distance
+told c distance within =
+    let a = turn c .before .args in
+    let l = turn c .loop in
+    l .inv .1 distance within
+    ∙ next-pitch _ _ distance (omega arith) (l .pitch) (l .row) (l .inv .0) (c .before .loop-test .taken) (within .low)
+    ∙ ap (λ next. tells (a .rows) (a .t2) (min (l .pitch) next) (l .row + 1) distance) (sym (c .pitch-of .ensures))
 
 -- ---- the needs
 
@@ -49,6 +60,18 @@ array-read-pitch-of-2 c = omega arith
 pitch-of-requires : tie.Need-pitch-of-requires Inv-loop μ-loop
 pitch-of-requires c κs = search needs
 
+returns : tie.Need-returns Inv-loop μ-loop
+returns c =
+    let measured = c .before in
+    let a = turn measured .before .args in
+    let l = turn measured .loop in
+    let none : min (l .pitch) (measured .pitch-of .result) ≡ 0 = omega (arith, c .if1 .taken) in (
+      (λ distance within. told measured distance within
+          ∙ ap (λ pitch. tells (a .rows) (a .t2) pitch (l .row + 1) distance) none
+          ∙ no-pitch (a .rows) (a .t2) distance (l .row + 1) (within .low)),
+      l .inv .2,
+    )
+
 least-requires : tie.Need-least-requires Inv-loop μ-loop
 least-requires c κs = search needs
 
@@ -60,19 +83,17 @@ loop-less c = omega arith
 
 loop-again : tie.Need-loop-again Inv-loop μ-loop
 loop-again c =
-    let l = turn c .loop in
-    let a = turn c .before .args in
-    let lesser : c .least .result ≡ min (l .pitch) (getD (a .t2) (l .row - 1) 0 - getD (a .t2) (l .row) 0)
-    = c .least .ensures ∙ ap (min (l .pitch)) (c .before .pitch-of .ensures) in (
+    let measured = c .before .before in
+    let a = turn measured .before .args in
+    let l = turn measured .loop in (
       omega arith,
-      (λ distance within. l .inv .1 distance within
-          ∙ next-pitch _ _ distance (omega arith) (l .pitch) (l .row) (l .inv .0) (c .before .before .loop-test .taken) (within .low)
-          ∙ ap (λ p. tells (a .rows) (a .t2) p (l .row + 1) distance) (sym lesser)),
+      (λ distance within. told measured distance within
+          ∙ ap (λ pitch. tells (a .rows) (a .t2) pitch (l .row + 1) distance) (sym (c .least .ensures))),
       l .inv .2,
     )
 
-returns : tie.Need-returns Inv-loop μ-loop
-returns c =
+returns-2 : tie.Need-returns-2 Inv-loop μ-loop
+returns-2 c =
     let l = c .before .loop in (
       (λ distance within. l .inv .1 distance within ∙ all-pitches _ _ distance (omega arith) (l .pitch) (l .row) (c .loop-test .left)),
       l .inv .2,
@@ -91,8 +112,9 @@ least-pitch-spec =
     mul-pitch-of-2
     array-read-pitch-of-2
     pitch-of-requires
+    returns
     least-requires
     add-row
     loop-less
     loop-again
-    returns)
+    returns-2)
