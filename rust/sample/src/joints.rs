@@ -427,3 +427,33 @@ pub fn scatter(random: &mut Random, fields: &mut [u32]) {
         }
     }
 }
+
+#[cfg(test)]
+mod tests {
+    use super::*;
+    use reference::BUILT_IN;
+    use std::cmp::Ordering;
+
+    /// Mostly by 25δ or more, often by no more than that, and now and then by less.
+    #[test]
+    fn rows_stand_apart() {
+        let mut random = Random::new(5);
+        let (mut too_close, mut at_edge) = (0, 0);
+        for _ in 0..2_000 {
+            let rows = random.between(2, 8);
+            let joint = sensible_joint(&mut random, &BUILT_IN, rows);
+            let levers = &joint.face.levers[..rows as usize];
+            let pitches = levers.windows(2).map(|pair| pair[0] - pair[1]);
+            match pitches
+                .min()
+                .cmp(&Some(minimum_pitch(joint.bolts.diameter)))
+            {
+                Ordering::Less => too_close += 1,
+                Ordering::Equal => at_edge += 1,
+                Ordering::Greater => {}
+            }
+        }
+        assert!(at_edge > 500, "{at_edge}");
+        assert!((20..400).contains(&too_close), "{too_close}");
+    }
+}
