@@ -46,6 +46,14 @@ fn levers(first: u32, second: u32) -> [u32; 8] {
     [first, second, 0, 0, 0, 0, 0, 0]
 }
 
+/// Joint I with a row more, at this lever.
+fn second_row(lever: u32) -> Joint {
+    with(|joint| {
+        joint.face.rows = 2;
+        joint.face.levers = levers(2400, lever);
+    })
+}
+
 /// Joint I with a row above the flange.
 fn extended(change: impl FnOnce(&mut Face)) -> Joint {
     with(|joint| {
@@ -303,28 +311,16 @@ fn work_10_the_column_end_in_its_place() {
 
 #[test]
 fn work_11_lever_order() {
-    let second = |lever| {
-        with(|joint| {
-            joint.face.rows = 2;
-            joint.face.levers = levers(2400, lever);
-        })
-    };
-    assert_eq!(work(&second(2399)), Err(Trouble::RowsTooClose));
-    assert_eq!(work(&second(2400)), Err(Trouble::LeverOrder));
-    assert_eq!(work(&second(2401)), Err(Trouble::LeverOrder));
+    assert_eq!(work(&second_row(2399)), Err(Trouble::RowsTooClose));
+    assert_eq!(work(&second_row(2400)), Err(Trouble::LeverOrder));
+    assert_eq!(work(&second_row(2401)), Err(Trouble::LeverOrder));
 }
 
 #[test]
 fn work_19_rows_too_close() {
     // M20: 25δ = 500
-    let second = |lever| {
-        with(|joint| {
-            joint.face.rows = 2;
-            joint.face.levers = levers(2400, lever);
-        })
-    };
-    assert!(work(&second(1900)).is_ok());
-    assert_eq!(work(&second(1901)), Err(Trouble::RowsTooClose));
+    assert!(work(&second_row(1900)).is_ok());
+    assert_eq!(work(&second_row(1901)), Err(Trouble::RowsTooClose));
     // an extension row and the one below it
     let extension = |lever| extended(|face| face.levers = levers(lever, 2893));
     assert!(work(&extension(3393)).is_ok());
