@@ -11,7 +11,7 @@ use lib.Seq.{take-at, length-take-le, getD-take}
 use lib.Dec.{leb}
 use borrow.Author.Tests.{lt-leb, le-leb, leb-true}
 use Rattle.arithmetic.specs.Range.{within}
-use Rattle.arithmetic.proofs.Checks.{holds, fails, none-left, positive, numbered-holds}
+use Rattle.arithmetic.proofs.Checks.{holds, fails, none-left, numbered, positive, numbered-holds}
 use Rattle.joint.specs.Ranges.{rowCounts}
 use Rattle.joint.specs.Places.{eightPlaces}
 use Rattle.sharing.specs.Groups.{groupCount, listed, mostLimit}
@@ -63,16 +63,21 @@ module _ (n : ℕ) (limits : List ℕ) where
                   rw (getD-take (groupCount n) limits k 0 h) at (each-within mostLimit (take (groupCount n) limits) small k inside);
             }
 
-  -- an answer that is no refusal has the best forces
-  pub no-refusal-is-best : (answer : Allocation) → allocated n limits ≡ answer → answer .refusal ≡ 0
-      → Best (listed n limits) n (take n (answer .forces))
-  unfolding allocated allocateRefusals positive eightPlaces
-  no-refusal-is-best answer e none =
-      let whole = numbered-holds _ refusedAllocation answer
+  -- an answer that is no refusal: there is a limit for each group, and the forces are the shared ones
+  pub not-refused : (answer : Allocation) → allocated n limits ≡ answer → answer .refusal ≡ 0
+      → (groupCount n ≤ length limits) × (take n (answer .forces) ≡ shared (listed n limits) n)
+  unfolding allocated allocateRefusals positive numbered eightPlaces
+  not-refused answer e none =
+      let passed = numbered-holds _ refusedAllocation answer
       (λ number refused. let never : suc number ≡ 0 = ap (λ a. a .refusal) refused ∙ none in absurd (omega arith))
       (allocateRefusals n limits) tt e in
-      let b = best (listed n limits) n in
-      let list = shared (listed n limits) n in
-      let own : take n (answer .forces) ≡ list =
-      ap (λ a. take n (a .forces)) (sym (whole .1)) ∙ take-at list (replicate (8 - length list) 0) n (b .competes .rows) in
-      rw own b
+      let list = shared (listed n limits) n in (
+        leb-true _ _ (passed .0 7),
+        ap (λ a. take n (a .forces)) (sym (passed .1))
+            ∙ take-at list (replicate (8 - length list) 0) n (best (listed n limits) n .competes .rows),
+      )
+
+  -- and no others are better
+  pub no-refusal-is-best : (answer : Allocation) → allocated n limits ≡ answer → answer .refusal ≡ 0
+      → Best (listed n limits) n (take n (answer .forces))
+  no-refusal-is-best answer e none = rw (not-refused answer e none .1) (best (listed n limits) n)

@@ -1,4 +1,5 @@
 pub mod Answers
 pub mod Bound
 pub mod Counting
+pub mod Raising
 pub mod Rows

@@ -17,6 +17,7 @@ use Rattle.jointfile.specs.Write.{partOf, file}
 use Rattle.sharing.specs.Groups.{groupsAbove, groupCount, listed, withCap}
 use Rattle.sharing.specs.Sharing.{leastUpTo, lowered, allowance, nextForce, forcesDownTo, shared, moment, newtonMetres}
 use Rattle.allocation.specs.Allocation.{noneAbove, allocateRefusals, allocated}
+use Rattle.allocation.specs.Raising.{raisedLimits}
 use Rattle.strength.specs.Steel.{steelStrength, steelBearing, weldStrength}
 use Rattle.strength.specs.Bolt.{boltTension, boltShear, boltBearing, boltUltimate, pairTension, pairShear}
 use Rattle.strength.specs.Thickness.{thicknessLimit, tooThick, bothTooThick}
@@ -46,7 +47,7 @@ unfolding table firstFailing search-from sizesIn riseAbove tableRefusals tableCh
     leverChecks fixedChecks fieldChecks fieldCheck twoFaced firstRows firstFace eightPlaces
     groups readGroups readNumbers storedAll ownOf jointOf axialOf storedAxial fieldsOf readOthers readPart readSecond readJoint partOf file
     groupsAbove groupCount listed withCap leastUpTo lowered allowance nextForce forcesDownTo shared moment newtonMetres
-    noneAbove allocateRefusals allocated
+    noneAbove allocateRefusals allocated raisedLimits
     steelStrength steelBearing weldStrength boltTension boltShear boltBearing boltUltimate pairTension pairShear
     thicknessLimit tooThick bothTooThick bending webTension
     columnFlangeBending endPlateBending endPlateLimits columnWebTension beamWebLimits groupLimit

@@ -21,6 +21,7 @@ use Rattle.jointfile.specs.declared.FileKind.{FileKind}
 use Rattle.jointfile.specs.declared.FileKind.the-variants.{Old, New}
 use Rattle.sharing.specs.Sharing.{moment}
 use Rattle.allocation.specs.Allocation.{allocated}
+use Rattle.allocation.specs.Raising.{raisedLimits}
 use Rattle.strength.specs.Steel.{steelStrength}
 use Rattle.strength.specs.declared.BoltStrengths.{BoltStrengths}
 use Rattle.strength.specs.Thickness.{bothTooThick}
@@ -42,16 +43,18 @@ pub record Checked : Type 0 where
 allocateAnswer : ℕ → List ℕ → List ℕ
 allocateAnswer n limits = let answer = allocated n limits in answer .refusal ∷ answer .forces
 
--- A, in kilonewtons: the forces, and their moment with levers of 565, 465 and 375 millimetres
+-- and before it the moment of the rows' forces with levers of 565, 465 and 375 millimetres, as many as there are rows
+withMoment : ℕ → List ℕ → List ℕ
+unfolding allocateAnswer
+withMoment n limits = moment (take n (565 ∷ 465 ∷ 375 ∷ [])) (take n (allocated n limits .forces)) ∷ allocateAnswer n limits
+
+-- A, in kilonewtons: the forces and their moment
 limits-A : List ℕ
 limits-A = 371 ∷ 687 ∷ 974 ∷ 375 ∷ 679 ∷ 375 ∷ []
 
 checked-A : Checked
-unfolding allocateAnswer limits-A
-checked-A = record {
-  given = moment (565 ∷ 465 ∷ 375 ∷ []) (take 3 (allocated 3 limits-A .forces)) ∷ allocateAnswer 3 limits-A;
-  stated = 464180 ∷ 0 ∷ 371 ∷ 316 ∷ 287 ∷ 0 ∷ 0 ∷ 0 ∷ 0 ∷ 0 ∷ [];
-}
+unfolding withMoment limits-A
+checked-A = record { given = withMoment 3 limits-A; stated = 464180 ∷ 0 ∷ 371 ∷ 316 ∷ 287 ∷ 0 ∷ 0 ∷ 0 ∷ 0 ∷ 0 ∷ [] }
 
 -- B: A with 1–3 = 600
 checked-B : Checked
@@ -62,9 +65,28 @@ checked-B = record {
 }
 
 -- C: limits 300, 200, 300 for two rows
+limits-C : List ℕ
+limits-C = 300 ∷ 200 ∷ 300 ∷ []
+
 checked-C : Checked
-unfolding allocateAnswer
-checked-C = record { given = allocateAnswer 2 (300 ∷ 200 ∷ 300 ∷ []); stated = 0 ∷ 200 ∷ 0 ∷ 0 ∷ 0 ∷ 0 ∷ 0 ∷ 0 ∷ 0 ∷ [] }
+unfolding allocateAnswer limits-C
+checked-C = record { given = allocateAnswer 2 limits-C; stated = 0 ∷ 200 ∷ 0 ∷ 0 ∷ 0 ∷ 0 ∷ 0 ∷ 0 ∷ 0 ∷ [] }
+
+-- A with 1–1 raised by 4: row 2 loses what row 1 gains, and the moment gains 4 × (565 − 465)
+checked-A-raised : Checked
+unfolding withMoment limits-A
+checked-A-raised = record {
+  given = withMoment 3 (raisedLimits (record { first = 0; last = 0; newtons = 4 }) 3 limits-A);
+  stated = 464580 ∷ 0 ∷ 375 ∷ 312 ∷ 287 ∷ 0 ∷ 0 ∷ 0 ∷ 0 ∷ 0 ∷ [];
+}
+
+-- C before and after 1–2 is raised by 50: row 1 gains all of it, so the moment gains 50 × 565, as much as it may
+checked-C-raised : Checked
+unfolding withMoment limits-C
+checked-C-raised = record {
+  given = withMoment 2 limits-C ++ withMoment 2 (raisedLimits (record { first = 0; last = 1; newtons = 50 }) 2 limits-C);
+  stated = (113000 ∷ 0 ∷ 200 ∷ 0 ∷ 0 ∷ 0 ∷ 0 ∷ 0 ∷ 0 ∷ 0 ∷ []) ++ (141250 ∷ 0 ∷ 250 ∷ 0 ∷ 0 ∷ 0 ∷ 0 ∷ 0 ∷ 0 ∷ 0 ∷ []);
+}
 
 -- bolts of class 88, M24, by the table built in
 bolts-M24 : BoltStrengths
@@ -321,9 +343,9 @@ checked-I-apart = record {
 }
 
 unfoldable pub table : List Checked
-unfolding checked-A checked-B checked-C checked-D checked-E checked-F checked-G checked-H checked-I checked-I-pushed checked-I-file
+unfolding checked-A checked-B checked-C checked-A-raised checked-C-raised checked-D checked-E checked-F checked-G checked-H checked-I checked-I-pushed checked-I-file
     checked-I-both checked-I-panel checked-loading checked-I-own checked-I-apart
 table =
-    checked-A ∷ checked-B ∷ checked-C ∷ checked-D ∷ checked-E ∷ checked-F ∷ checked-G ∷ checked-H
+    checked-A ∷ checked-B ∷ checked-C ∷ checked-A-raised ∷ checked-C-raised ∷ checked-D ∷ checked-E ∷ checked-F ∷ checked-G ∷ checked-H
     ∷ checked-I ∷ checked-I-pushed ∷ checked-I-file ∷ checked-I-both ∷ checked-I-panel ∷ checked-loading ∷ checked-I-own
     ∷ checked-I-apart ∷ []

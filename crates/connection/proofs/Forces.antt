@@ -6,13 +6,13 @@ use Prim.Native.Nat.{ℕ, zero, suc, _+_, _-_, _≤_, _<_, zero-le, min}
 use native.Mathlib.Omega.{arith}
 use mathlib.Core.List.{List}
 use lib.ListN.{length, getD, set, take, replicate, length-set}
-use lib.Seq.{getD-set-same, getD-set-other, take-at}
+use lib.Seq.{take-at}
 use lib.Dec.{eqb}
 use borrow.Author.Tests.{eqb-true, eqb-false}
 use Rattle.arithmetic.proofs.Store.{store-keeps}
-use Rattle.sharing.specs.Groups.{Table, groupsAbove, listed, withCap, mostLimit}
+use Rattle.sharing.specs.Groups.{Table, groupsAbove, placeOf, listed, withCap, mostLimit}
 use Rattle.sharing.specs.Sharing.{shared}
-use Rattle.sharing.proofs.Places.{group-count-le, one-group-a-place}
+use Rattle.sharing.proofs.Places.{group-count-le, stored-same, stored-other}
 use Rattle.sharing.proofs.Agreement.{shared-agrees}
 use Rattle.sharing.proofs.Theorems.{best}
 use Rattle.joint.specs.Ranges.{rowCounts}
@@ -30,38 +30,29 @@ rows-kept n limit =
 module _ (n cap : ℕ) (limit : Table) (entry table : List ℕ) (filled : TableFilled n limit entry table) (some : 1 ≤ n)
     (few : n ≤ rowCounts .high) (stored : ℕ) (lower : stored ≡ min (getD table (n - 1) 0) cap) where
   -- the place of group 1 to n
-  whole : groupsAbove n 0 + ((n - 1) - 0) ≡ n - 1
+  whole : placeOf n 0 (n - 1) ≡ n - 1
   unfolding groupsAbove
   whole = omega arith
 
-  inside : n - 1 < length table
-  inside = omega (arith, filled .size)
-
-  elsewhere : (i j : ℕ) → i ≤ j → j < n → ((i ≡ 0) × (suc j ≡ n) → ⊥) → groupsAbove n i + (j - i) ≡ n - 1 → ⊥
-  elsewhere i j h under other e =
-      let same = one-group-a-place n i j 0 (n - 1) h under (omega arith) (omega arith) (e ∙ sym whole) in
-      other (same .0, omega (arith, same .1))
-
   agrees : (i j : ℕ) → i ≤ j → j < n → listed n (set table (n - 1) stored) i j ≡ withCap limit n cap i j
   unfolding listed withCap
-  agrees i j h under = go (eqb i 0) (eqb (suc j) n) refl refl
+  agrees i j h under = ap (λ place. listed n (set table place stored) i j) (sym whole) ∙ go (eqb i 0) (eqb (suc j) n) refl refl
     where
-      other : ((i ≡ 0) × (suc j ≡ n) → ⊥) → getD (set table (n - 1) stored) (groupsAbove n i + (j - i)) 0 ≡ limit i j
+      other : ((i ≡ 0) × (j ≡ n - 1) → ⊥) → listed n (set table (placeOf n 0 (n - 1)) stored) i j ≡ limit i j
       other no-whole =
-          getD-set-other table (n - 1) (groupsAbove n i + (j - i)) stored 0 (elsewhere i j h under no-whole) ∙ filled .agrees i j h under
+          stored-other n 0 (n - 1) stored table (omega arith) (omega arith) i j h under no-whole ∙ filled .agrees i j h under
 
       go : (top last : Bool) → eqb i 0 ≡ top → eqb (suc j) n ≡ last
-          → getD (set table (n - 1) stored) (groupsAbove n i + (j - i)) 0 ≡ cond (top && last) (min (limit i j) cap) (limit i j)
+          → listed n (set table (placeOf n 0 (n - 1)) stored) i j ≡ cond (top && last) (min (limit i j) cap) (limit i j)
       go true true et el =
           let top = eqb-true i 0 et in
-          let last = eqb-true (suc j) n el in
-          let row : j ≡ n - 1 = omega arith in
-          let place : groupsAbove n i + (j - i) ≡ n - 1 = ap₂ (λ a b. groupsAbove n a + (b - a)) top row ∙ whole in
-          ap (λ k. getD (set table (n - 1) stored) k 0) place
-          ∙ getD-set-same table (n - 1) stored 0 inside
+          let end = eqb-true (suc j) n el in
+          let last : j ≡ n - 1 = omega arith in
+          let own = ap (λ place. getD table place 0) (sym whole ∙ ap₂ (placeOf n) (sym top) (sym last)) ∙ filled .agrees i j h under in
+          stored-same n 0 (n - 1) stored table (omega arith) (omega arith) (omega (arith, filled .size, group-count-le n few)) i j top last
           ∙ lower
-          ∙ ap (λ l. min l cap) (ap (λ k. getD table k 0) (sym place) ∙ filled .agrees i j h under)
-      go true false et el = other (λ w. eqb-false (suc j) n el (w .1))
+          ∙ ap (λ l. min l cap) own
+      go true false et el = other (λ w. eqb-false (suc j) n el (omega (arith, w .1)))
       go false last et el = other (λ w. eqb-false i 0 et (w .0))
 
   pub forces-agree : shared (listed n (set table (n - 1) stored)) n ≡ shared (withCap limit n cap) n

@@ -7,3 +7,4 @@ pub mod Moments
 pub mod Theorems
 pub mod Agreement
 pub mod Cap
+pub mod Raising

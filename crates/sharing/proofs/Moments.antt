@@ -1,16 +1,17 @@
 -- Of two lists of forces on levers that fall, one whose every sum from the top is at least the other's has at least the
--- other's moment, and the same moment only where the lists are the same.
+-- other's moment, and the same moment only where the lists are the same. One whose sums are the other's down to a row, and from there on
+-- within some newtons of them, has a moment within these newtons at that row's lever.
 -- The recursion goes down the rows with the newtons in hand: by how much the first sum is ahead, held at the lever above.
 -- Moving them down to the next lever loses something unless there are none. Assumes nothing.
 use mathlib.Core.Path.{_≡_, refl, sym, ap, ap₂, _∙_}
-use Prim.Native.Nat.{ℕ, suc, _+_, _-_, _*_, _≤_, _<_}
+use Prim.Native.Nat.{ℕ, zero, suc, _+_, _-_, _*_, _≤_, _<_}
 use native.Mathlib.Nat.{le-refl, add-mul, mul-le-mul-left, mul-lt-mul-of-pos-left, eq-zero-or-pos}
 use native.Mathlib.Omega.{arith}
 use mathlib.Core.Logic.{⊎-elim}
 use mathlib.Core.List.{List, [], _∷_}
 use lib.ListN.{length, take, getD}
 use Rattle.sharing.specs.Groups.{total}
-use Rattle.sharing.specs.Sharing.{moment}
+use Rattle.sharing.specs.Sharing.{moment, Falling}
 
 -- levers that fall from a lever above them
 pub record FallsFrom (top : ℕ) (levers : List ℕ) : Type 0 where
@@ -18,6 +19,16 @@ pub record FallsFrom (top : ℕ) (levers : List ℕ) : Type 0 where
   pub falls : (k : ℕ) → suc k < length levers → getD levers (suc k) 0 < getD levers k 0
   pub positive : 1 ≤ top
   pub positives : (k : ℕ) → k < length levers → 1 ≤ getD levers k 0
+
+-- the levers of a joint, from one above them all
+pub falls-from-above : (levers : List ℕ) (n : ℕ) → Falling levers n → FallsFrom (suc (getD levers 0 0)) levers
+falls-from-above levers n f =
+    record {
+      first = λ h. omega arith;
+      falls = λ k h. f .falls k (omega (arith, f .rows));
+      positive = omega arith;
+      positives = λ k h. f .positive k (omega (arith, f .rows));
+    }
 
 falls-tail : (top lever : ℕ) (levers : List ℕ) → FallsFrom top (lever ∷ levers) → FallsFrom lever levers
 falls-tail top lever levers f =
@@ -80,3 +91,21 @@ moment-eq (lever ∷ levers) (x ∷ xs) (y ∷ ys) hand top f ex ey d e =
     (omega (arith, hand-down hand x y lever top (omega arith) (omega arith))) in
     let same : y ≡ x = omega (arith, rest .0) in
     (none, ap₂ (λ z zs. z ∷ zs) same (rest .1))
+
+pub moment-within : (first : ℕ) (levers xs ys : List ℕ) (hand top : ℕ) → FallsFrom top levers → length xs ≡ length levers
+    → length ys ≡ length levers → ((k : ℕ) → k ≤ first → total (take k ys) ≡ total (take k xs)) → Ahead hand xs ys
+    → moment levers ys ≤ moment levers xs + hand * getD levers first 0
+unfolding moment
+moment-within first [] xs ys hand top f ex ey same d = omega arith
+moment-within first (lever ∷ levers) [] ys hand top f ex ey same d = absurd (omega arith)
+moment-within first (lever ∷ levers) (x ∷ xs) [] hand top f ex ey same d = absurd (omega arith)
+moment-within zero (lever ∷ levers) (x ∷ xs) (y ∷ ys) hand top f ex ey same d =
+    let one = d 1 in
+    let below = moment-le levers xs ys (hand + x - y) lever (falls-tail top lever levers f) (omega arith) (omega arith)
+    (ahead-tail hand x y xs ys d) in
+    omega (arith, hand-down hand x y lever lever (omega arith) (le-refl lever))
+moment-within (suc first) (lever ∷ levers) (x ∷ xs) (y ∷ ys) hand top f ex ey same d =
+    let row : y ≡ x = omega (arith, same 1 (omega arith)) in
+    let below = moment-within first levers xs ys hand lever (falls-tail top lever levers f) (omega arith) (omega arith)
+    (λ k h. omega (arith, same (suc k) (omega arith), row)) (λ k. let more = d (suc k) in omega (arith, row)) in
+    omega (arith, ap (λ force. force * lever) row)

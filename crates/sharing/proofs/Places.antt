@@ -1,13 +1,16 @@
 -- Where the limits of a row's groups stand in a list of n(n+1)÷2 limits: each row's follow those of the row above, and all
--- have their place. Twice the groups above row i, and the m(m+1) that the m rows from there on make, are n(n+1).
--- Assumes nothing.
-use mathlib.Core.Path.{_≡_, sym, ap, _∙_}
+-- have their place. Twice the groups above row i, and the m(m+1) that the m rows from there on make, are n(n+1). Since no two groups have
+-- one place, a limit stored at a group's place is that group's alone. Assumes nothing.
+use mathlib.Core.Path.{_≡_, sym, ap, ap₂, _∙_}
 use Prim.Native.Nat.{ℕ, zero, suc, _+_, _-_, _*_, _≤_, _<_}
 use native.Mathlib.Nat.{zero-add, suc-add, add-suc, suc-mul, mul-suc, mul-le-mul, add-zero}
 use native.Mathlib.Numerals.{add-one}
 use native.Mathlib.Decide.{decLe}
 use native.Mathlib.Omega.{arith}
-use Rattle.sharing.specs.Groups.{groupsAbove, groupCount}
+use mathlib.Core.List.{List}
+use lib.ListN.{length, set}
+use lib.Seq.{getD-set-same, getD-set-other}
+use Rattle.sharing.specs.Groups.{groupsAbove, placeOf, groupCount, listed}
 
 -- (m + 1)(m + 2) is m(m + 1) and twice m + 1
 next-triangle : (m : ℕ) → suc m * (suc m + 1) ≡ m * (m + 1) + 2 * suc m
@@ -46,7 +49,7 @@ groups-inside n i h =
     omega (arith, ap (groupsAbove n) rows, all-groups n)
 
 -- a group that begins at an upper row stands before those that begin at a lower one
-upper-first : (n a b i : ℕ) → a ≤ b → b < n → a < i → groupsAbove n a + (b - a) < groupsAbove n i
+upper-first : (n a b i : ℕ) → a ≤ b → b < n → a < i → placeOf n a b < groupsAbove n i
 unfolding groupsAbove
 upper-first n a b i h inside under =
     let rows : suc a + (i - suc a) ≡ i = omega arith in
@@ -54,7 +57,7 @@ upper-first n a b i h inside under =
     omega (arith, ap (groupsAbove n) rows)
 
 -- no two groups have one place
-pub one-group-a-place : (n a b i j : ℕ) → a ≤ b → b < n → i ≤ j → j < n → groupsAbove n a + (b - a) ≡ groupsAbove n i + (j - i)
+pub one-group-a-place : (n a b i j : ℕ) → a ≤ b → b < n → i ≤ j → j < n → placeOf n a b ≡ placeOf n i j
     → (a ≡ i) × (b ≡ j)
 one-group-a-place n a b i j hb inside hj under e =
     let row = same-row (decLe a i) (decLe i a) in
@@ -64,3 +67,17 @@ one-group-a-place n a b i j hb inside hj under e =
     same-row (yes p) (yes q) = omega arith
     same-row (yes p) (no q) = absurd (omega (arith, upper-first n a b i hb inside (omega arith)))
     same-row (no p) q = absurd (omega (arith, upper-first n i j a hj under (omega arith)))
+
+module _ (n a b x : ℕ) (limits : List ℕ) (hb : a ≤ b) (inside : b < n) where
+  -- a limit stored at a group's place is that group's
+  pub stored-same : groupCount n ≤ length limits → (i j : ℕ) → i ≡ a → j ≡ b → listed n (set limits (placeOf n a b) x) i j ≡ x
+  unfolding listed
+  stored-same enough i j first last =
+      ap₂ (λ row end. listed n (set limits (placeOf n a b) x) row end) first last
+      ∙ getD-set-same limits (placeOf n a b) x 0 (omega (arith, groups-inside n a (omega arith)))
+
+  -- and every other group keeps its own
+  pub stored-other : (i j : ℕ) → i ≤ j → j < n → ((i ≡ a) × (j ≡ b) → ⊥) → listed n (set limits (placeOf n a b) x) i j ≡ listed n limits i j
+  unfolding listed
+  stored-other i j hj under other =
+      getD-set-other limits (placeOf n a b) (placeOf n i j) x 0 (λ e. other (one-group-a-place n i j a b hj under hb inside e))

@@ -4,7 +4,7 @@
 -- Assumes nothing.
 use mathlib.Core.Path.{_≡_, refl, sym, ap, _∙_}
 use mathlib.Core.Logic.{⊎-elim}
-use Prim.Native.Nat.{ℕ, zero, suc, _+_, _-_, _≤_, _<_}
+use Prim.Native.Nat.{ℕ, zero, suc, _+_, _-_, _≤_, _<_, min}
 use native.Mathlib.Nat.{le-trans, le-of-eq, le-suc-iff}
 use mathlib.Core.List.{List}
 use native.Mathlib.Omega.{arith}
@@ -12,10 +12,10 @@ use native.Mathlib.Numerals.{add-one}
 use lib.ListN.{length, take, drop, length-append}
 use lib.Seq.{take-append-le, take-all}
 use Rattle.sharing.specs.Groups.{Table, total}
-use Rattle.sharing.specs.Sharing.{lowered, allowance, nextForce, forcesDownTo}
+use Rattle.sharing.specs.Sharing.{lowered, allowance, nextForce, forcesDownTo, shared}
 use Rattle.sharing.proofs.Least.{least-le, le-least}
 use Rattle.sharing.proofs.Lowering.{lowered-grows}
-use Rattle.sharing.proofs.Totals.{total-snoc, total-cut}
+use Rattle.sharing.proofs.Totals.{total-snoc, total-cut, take-rows}
 
 -- What the first k rows have got together.
 unfoldable pub sumDownTo : Table → ℕ → ℕ → ℕ
@@ -38,6 +38,11 @@ module _ (limit : Table) (n : ℕ) where
       take-append-le m (forcesDownTo limit n k) _ inside ∙ take-forces k m below)
       (λ last. rw last (take-all (suc k) _ (le-of-eq (length-forces (suc k)))))
       (le-suc-iff .0 h)
+
+  -- the first k of the shared forces, those of all rows where there are no k
+  pub take-shared : (k : ℕ) → take k (shared limit n) ≡ forcesDownTo limit n (min k n)
+  unfolding shared
+  take-shared k = take-rows (forcesDownTo limit n n) n k (length-forces n) ∙ take-forces n (min k n) (omega arith)
 
   -- what rows i to k − 1 have got
   sum-between : (k i : ℕ) → i ≤ k → sumDownTo limit n i + total (drop i (forcesDownTo limit n k)) ≡ sumDownTo limit n k

@@ -5,21 +5,19 @@
 use mathlib.Core.Path.{_≡_, refl, sym, ap, _∙_}
 use mathlib.Core.Logic.{⊎-elim, _↔_}
 use mathlib.Core.Bool.{Bool, true, false}
-use Prim.Native.Nat.{ℕ, zero, suc, _+_, _-_, _≤_, _<_}
+use Prim.Native.Nat.{ℕ, zero, suc, _+_, _-_, _≤_, _<_, min}
 use native.Mathlib.Nat.{le-refl, le-antisymm, le-suc-iff, zero-mul, zero-add}
-use native.Mathlib.Decide.{decLe}
 use native.Mathlib.Omega.{arith}
 use mathlib.Core.List.{List}
 use lib.ListN.{take, getD}
-use lib.Seq.{take-all}
 use Rattle.sharing.specs.Groups.{Table, total, groupSum}
 use Rattle.sharing.specs.Sharing.{lowered, shared, Competes, moment, Falling}
 use Rattle.sharing.specs.Best.{Best}
 use Rattle.sharing.proofs.Least.{le-least}
-use Rattle.sharing.proofs.Totals.{total-take-le, sums-determine, above-and-group}
+use Rattle.sharing.proofs.Totals.{total-take-le, take-rows, sums-determine, above-and-group}
 use Rattle.sharing.proofs.Lowering.{lowered-le}
 use Rattle.sharing.proofs.Sums.{sumDownTo, length-forces, take-forces, sum-le, le-sum}
-use Rattle.sharing.proofs.Moments.{FallsFrom, moment-le, moment-eq}
+use Rattle.sharing.proofs.Moments.{falls-from-above, moment-le, moment-eq}
 
 module _ (limit : Table) (n : ℕ) where
   -- the sum of the shared forces down to a row
@@ -67,41 +65,24 @@ module _ (limit : Table) (n : ℕ) where
 
     pub sum-le-shared : (k : ℕ) → total (take k other) ≤ total (take k (shared limit n))
     sum-le-shared k =
-        elim (decLe k n) [
-          | yes h ↦ rw (sum-shared k h) (sum-le-inside k k (le-refl k) h)
-          | no h ↦
-              let past : n ≤ k = omega arith in
-              let whole = sum-le-inside n n (le-refl n) (le-refl n) in
-              let mine = take-all k (shared limit n) (omega (arith, shared-competes .rows)) in
-              let others = take-all k other (omega (arith, c .rows)) in
-              let mine-n = take-all n (shared limit n) (omega (arith, shared-competes .rows)) in
-              let others-n = take-all n other (omega (arith, c .rows)) in
-              omega (arith, ap total mine, ap total others, ap total mine-n, ap total others-n, sum-shared n (le-refl n))
-        ]
+        let rows : min k n ≤ n = omega arith in
+        rw (take-rows other n k (c .rows), take-rows (shared limit n) n k (shared-competes .rows), sum-shared (min k n) rows)
+        (sum-le-inside (min k n) (min k n) (le-refl (min k n)) rows)
 
     module _ (levers : List ℕ) (f : Falling levers n) where
-      from-above : FallsFrom (suc (getD levers 0 0)) levers
-      from-above =
-          record {
-            first = λ h. omega arith;
-            falls = λ k h. f .falls k (omega (arith, f .rows));
-            positive = omega arith;
-            positives = λ k h. f .positive k (omega (arith, f .rows));
-          }
-
       ahead : (k : ℕ) → total (take k other) ≤ 0 + total (take k (shared limit n))
       ahead k = rw zero-add (sum-le-shared k)
 
       pub moment-le-shared : moment levers other ≤ moment levers (shared limit n)
       moment-le-shared =
-          let m = moment-le levers (shared limit n) other 0 _ from-above (shared-competes .rows ∙ sym (f .rows))
+          let m = moment-le levers (shared limit n) other 0 _ (falls-from-above levers n f) (shared-competes .rows ∙ sym (f .rows))
           (c .rows ∙ sym (f .rows)) ahead in
           omega (arith, zero-mul (suc (getD levers 0 0)))
 
       pub same-exactly : (other ≡ shared limit n) ↔ (moment levers other ≡ moment levers (shared limit n))
       same-exactly = (
         (λ e. ap (moment levers) e),
-        (λ e. moment-eq levers (shared limit n) other 0 _ from-above (shared-competes .rows ∙ sym (f .rows)) (c .rows ∙ sym (f .rows)) ahead
+        (λ e. moment-eq levers (shared limit n) other 0 _ (falls-from-above levers n f) (shared-competes .rows ∙ sym (f .rows)) (c .rows ∙ sym (f .rows)) ahead
             (omega (arith, e, zero-mul (suc (getD levers 0 0)))) .1),
       )
 

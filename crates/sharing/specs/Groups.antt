@@ -28,14 +28,17 @@ unfoldable pub groupsAbove : ℕ → ℕ → ℕ
 groupsAbove n zero = 0
 groupsAbove n (suc i) = groupsAbove n i + (n - i)
 
+-- the place of the limit of rows i to j in that order, from 0
+abbrev pub placeOf : ℕ → ℕ → ℕ → ℕ
+placeOf n i j = groupsAbove n i + (j - i)
+
 -- how many groups n rows have
 unfoldable pub groupCount : ℕ → ℕ
 groupCount n = n * (n + 1) / 2
 
 -- The table that a list of limits in that order is.
 unfoldable pub listed : ℕ → List ℕ → Table
-unfolding groupsAbove
-listed n limits i j = getD limits (groupsAbove n i + (j - i)) 0
+listed n limits i j = getD limits (placeOf n i j) 0
 
 -- rule 10.2: no limit above this is taken
 abbrev pub mostLimit : ℕ

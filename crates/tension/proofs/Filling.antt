@@ -11,20 +11,19 @@ use lib.ListN.{length, getD, set, length-set}
 use lib.Seq.{getD-set-same, getD-set-other}
 use Rattle.arithmetic.proofs.Tests.{split}
 use Rattle.joint.specs.Ranges.{rowCounts}
-use Rattle.sharing.specs.Groups.{Table, groupsAbove, groupCount, listed, mostLimit}
+use Rattle.sharing.specs.Groups.{Table, groupsAbove, placeOf, groupCount, listed, mostLimit}
 use Rattle.sharing.proofs.Places.{groups-inside, all-groups, group-count-le, one-group-a-place}
 use Rattle.tension.specs.Admissible.{tablePlaces, TableFilled}
 
 -- How things stand when the groups before the one of rows i to j have their limits.
 pub record FilledTo (n : ℕ) (limit : Table) (entry table : List ℕ) (next i j : ℕ) : Type 0 where
   pub size : length table ≡ tablePlaces
-  pub place : next ≡ groupsAbove n i + (j - i)
+  pub place : next ≡ placeOf n i j
   pub rows : i ≤ n
   pub group : i ≤ j
   pub inside : i < n → j < n
   pub ended : n ≤ i → j ≡ i
-  pub agrees : (a b : ℕ) → a ≤ b → b < n → groupsAbove n a + (b - a) < next
-      → getD table (groupsAbove n a + (b - a)) 0 ≡ limit a b
+  pub agrees : (a b : ℕ) → a ≤ b → b < n → placeOf n a b < next → getD table (placeOf n a b) 0 ≡ limit a b
   pub bounded : (k : ℕ) → k < next → getD table k 0 ≤ mostLimit
   pub untouched : (k : ℕ) → next ≤ k → getD table k 0 ≡ getD entry k 0
 
@@ -52,13 +51,13 @@ module _ (n : ℕ) (limit : Table) (few : n ≤ rowCounts .high) (entry : List �
       here : getD (set table next stored) next 0 ≡ stored
       here = getD-set-same table next stored 0 (omega (arith, f .size, next-inside))
 
-      agrees-after : (a b : ℕ) → a ≤ b → b < n → groupsAbove n a + (b - a) < suc next
-          → getD (set table next stored) (groupsAbove n a + (b - a)) 0 ≡ limit a b
+      agrees-after : (a b : ℕ) → a ≤ b → b < n → placeOf n a b < suc next
+          → getD (set table next stored) (placeOf n a b) 0 ≡ limit a b
       agrees-after a b h inside before =
           ⊎-elim
           (λ earlier. getD-set-other table next _ stored 0 (omega arith) ∙ f .agrees a b h inside earlier)
           (λ same-place.
-          let at : groupsAbove n a + (b - a) ≡ next = omega arith in
+          let at : placeOf n a b ≡ next = omega arith in
           let same = one-group-a-place n a b i j h inside (f .group) (f .inside more) (at ∙ f .place) in
           ap (λ k. getD (set table next stored) k 0) at ∙ here ∙ e ∙ λ t. limit (sym (same .0) t) (sym (same .1) t))
           (le-suc-iff .0 before)

@@ -1,0 +1,122 @@
+-- How far one limit moves the figure, for any count of rows and any table: the shared forces move within the raise of one limit.
+-- Nothing falls, since the forces before still compete after. A sum down to row k is the least, over the groups that end there, of what
+-- the rows above a group have got and its lowered limit. Groups that begin at the raised group's first row or above it: their rows above
+-- have what they had, and the lowered limit is up by the raise at most. Groups that begin below: their lowered limits are what they were,
+-- and the rows above have got the raise more at most. Assumes nothing.
+use mathlib.Core.Path.{_≡_, refl, sym, ap, _∙_}
+use mathlib.Core.Logic.{⊎-elim}
+use mathlib.Core.Bool.{Bool, true, false, cond, _&&_}
+use Prim.Native.Nat.{ℕ, zero, suc, _+_, _-_, _*_, _≤_, _<_, min}
+use native.Mathlib.Nat.{le-refl, le-trans, le-suc-iff}
+use native.Mathlib.Decide.{decLe}
+use native.Mathlib.Omega.{arith}
+use mathlib.Core.List.{List}
+use lib.ListN.{take, getD}
+use lib.Dec.{eqb}
+use borrow.Author.Tests.{eqb-true}
+use Rattle.sharing.specs.Groups.{Table, total}
+use Rattle.sharing.specs.Sharing.{lowered, forcesDownTo, shared, Competes, Falling, moment}
+use Rattle.sharing.specs.Raising.{Raise, raised, MovesWithin}
+use Rattle.sharing.proofs.Least.{least-le, le-least}
+use Rattle.sharing.proofs.Totals.{take-rows}
+use Rattle.sharing.proofs.Sums.{sumDownTo, sum-le, le-sum}
+use Rattle.sharing.proofs.Moments.{falls-from-above, moment-within}
+use Rattle.sharing.proofs.Theorems.{sum-shared, shared-competes, sum-le-shared, moment-le-shared}
+use Rattle.sharing.proofs.Agreement.{lowered-agrees, rows-agree}
+
+module _ (raise : Raise) (limit : Table) where
+  abbrev after : Table
+  after = raised raise limit
+
+  raised-within : (i j : ℕ) → (limit i j ≤ after i j) × (after i j ≤ limit i j + raise .newtons)
+  unfolding raised
+  raised-within i j = go (eqb i (raise .first) && eqb j (raise .last))
+    where
+      go : (t : Bool) → (limit i j ≤ cond t (limit i j + raise .newtons) (limit i j))
+          × (cond t (limit i j + raise .newtons) (limit i j) ≤ limit i j + raise .newtons)
+      go true = (omega arith, le-refl _)
+      go false = (le-refl _, omega arith)
+
+  -- groups that begin at another row
+  raised-elsewhere : (i j : ℕ) → (i ≡ raise .first → ⊥) → after i j ≡ limit i j
+  unfolding raised
+  raised-elsewhere i j other = go (eqb i (raise .first)) refl
+    where
+      go : (t : Bool) → eqb i (raise .first) ≡ t → cond (t && eqb j (raise .last)) (limit i j + raise .newtons) (limit i j) ≡ limit i j
+      go true e = absurd (other (eqb-true _ _ e))
+      go false e = refl
+
+  module _ (n : ℕ) where
+    still-competes : Competes after n (shared limit n)
+    still-competes =
+        let c = shared-competes limit n in
+        record { rows = c .rows; keeps = λ i j h inside. le-trans (c .keeps i j h inside) (raised-within i j .0) }
+
+    above-stays : (k : ℕ) → k ≤ raise .first → total (take k (shared after n)) ≡ total (take k (shared limit n))
+    above-stays k h = ap total (rows-agree after limit n k (λ i j early hj inside. raised-elsewhere i j (λ e. omega arith)))
+
+    lowered-rises-within : (i j : ℕ) → lowered after n i j ≤ lowered limit n i j + raise .newtons
+    unfolding lowered
+    lowered-rises-within i j =
+        let lower = le-least (λ d. limit i (j + d)) (n - suc j) (lowered after n i j - raise .newtons)
+        (λ d h.
+        let own = least-le (λ e. after i (j + e)) (n - suc j) d h in
+        let up = raised-within i (j + d) .1 in
+        omega arith) in
+        omega arith
+
+    -- what the group of rows i to k allows the sum down to row k
+    allowed-rises-within : (k i : ℕ) → i ≤ k → k < n → sumDownTo after n i ≤ sumDownTo limit n i + raise .newtons
+        → sumDownTo after n i + lowered after n i k ≤ sumDownTo limit n i + lowered limit n i k + raise .newtons
+    allowed-rises-within k i h inside above =
+        elim (decLe i (raise .first)) [
+          | yes early ↦
+              let rows : i ≤ n = omega arith in
+              omega (arith, above-stays i early, sum-shared after n i rows, sum-shared limit n i rows, lowered-rises-within i k)
+          | no late ↦
+              let same = lowered-agrees after limit n i k inside (λ last hl under. raised-elsewhere i last (λ e. late (omega arith))) in
+              omega arith
+        ]
+
+    next-rises-within : (k : ℕ) → k < n → ((i : ℕ) → i ≤ k → sumDownTo after n i ≤ sumDownTo limit n i + raise .newtons)
+        → sumDownTo after n (suc k) ≤ sumDownTo limit n (suc k) + raise .newtons
+    next-rises-within k inside above =
+        let sum = le-sum limit n k (sumDownTo after n (suc k) - raise .newtons)
+        (λ i h. omega (arith, sum-le after n k i inside h, allowed-rises-within k i h inside (above i h))) in
+        omega arith
+
+    -- down to row k, and to each row above it
+    sum-rises-inside : (k m : ℕ) → m ≤ k → m ≤ n → sumDownTo after n m ≤ sumDownTo limit n m + raise .newtons
+    unfolding sumDownTo forcesDownTo
+    sum-rises-inside zero m h inside = let top : m ≡ 0 = omega arith in rw top (omega arith)
+    sum-rises-inside (suc k) m h inside =
+        ⊎-elim
+        (λ below. sum-rises-inside k m below inside)
+        (λ last. rw last (next-rises-within k (omega arith) (λ i hi. sum-rises-inside k i hi (omega arith))))
+        (le-suc-iff .0 h)
+
+    sum-rises-within : (k : ℕ) → total (take k (shared after n)) ≤ total (take k (shared limit n)) + raise .newtons
+    sum-rises-within k =
+        let rows : min k n ≤ n = omega arith in
+        let mine = take-rows (shared limit n) n k (shared-competes limit n .rows) in
+        let risen = take-rows (shared after n) n k (shared-competes after n .rows) in
+        let sums = sum-rises-inside (min k n) (min k n) (le-refl _) rows in
+        omega (arith, ap total mine, ap total risen, sum-shared limit n (min k n) rows, sum-shared after n (min k n) rows)
+
+    moment-rises-within : (levers : List ℕ) → Falling levers n
+        → moment levers (shared after n) ≤ moment levers (shared limit n) + raise .newtons * getD levers (raise .first) 0
+    moment-rises-within levers f =
+        moment-within (raise .first) levers (shared limit n) (shared after n) (raise .newtons) _ (falls-from-above levers n f)
+        (shared-competes limit n .rows ∙ sym (f .rows)) (shared-competes after n .rows ∙ sym (f .rows)) above-stays
+        (λ k. let rise = sum-rises-within k in omega arith)
+
+    -- each clause follows from its law by arithmetic: one that says too much is refused with figures
+    pub moves-within : MovesWithin raise n (shared limit n) (shared after n)
+    moves-within =
+        record {
+          above-stays = λ k h. omega (arith, above-stays k (omega arith));
+          sum-falls-nowhere = λ k. omega (arith, sum-le-shared after n (shared limit n) still-competes k);
+          sum-rises-within = λ k. omega (arith, sum-rises-within k);
+          moment-falls-nowhere = λ levers f. omega (arith, moment-le-shared after n (shared limit n) still-competes levers f);
+          moment-rises-within = λ levers f. omega (arith, moment-rises-within levers f);
+        }
