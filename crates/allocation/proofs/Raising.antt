@@ -13,7 +13,6 @@ use Rattle.sharing.specs.Raising.{Raise, raised}
 use Rattle.sharing.proofs.Places.{stored-same, stored-other}
 use Rattle.sharing.proofs.Agreement.{shared-agrees}
 use Rattle.sharing.proofs.Raising.{moves-within}
-use Rattle.allocation.specs.Allocation.{allocated}
 use Rattle.allocation.specs.Raising.{raisedLimits, AllocateMovesWithin}
 use Rattle.allocation.proofs.Answers.{not-refused}
 

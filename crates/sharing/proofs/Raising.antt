@@ -98,10 +98,13 @@ module _ (raise : Raise) (limit : Table) where
     sum-rises-within : (k : ℕ) → total (take k (shared after n)) ≤ total (take k (shared limit n)) + raise .newtons
     sum-rises-within k =
         let rows : min k n ≤ n = omega arith in
-        let mine = take-rows (shared limit n) n k (shared-competes limit n .rows) in
-        let risen = take-rows (shared after n) n k (shared-competes after n .rows) in
-        let sums = sum-rises-inside (min k n) (min k n) (le-refl _) rows in
-        omega (arith, ap total mine, ap total risen, sum-shared limit n (min k n) rows, sum-shared after n (min k n) rows)
+        rw (
+          take-rows (shared limit n) n k (shared-competes limit n .rows),
+          take-rows (shared after n) n k (shared-competes after n .rows),
+          sum-shared limit n (min k n) rows,
+          sum-shared after n (min k n) rows,
+        )
+        (sum-rises-inside (min k n) (min k n) (le-refl (min k n)) rows)
 
     moment-rises-within : (levers : List ℕ) → Falling levers n
         → moment levers (shared after n) ≤ moment levers (shared limit n) + raise .newtons * getD levers (raise .first) 0
@@ -110,13 +113,15 @@ module _ (raise : Raise) (limit : Table) where
         (shared-competes limit n .rows ∙ sym (f .rows)) (shared-competes after n .rows ∙ sym (f .rows)) above-stays
         (λ k. let rise = sum-rises-within k in omega arith)
 
-    -- each clause follows from its law by arithmetic: one that says too much is refused with figures
-    pub moves-within : MovesWithin raise n (shared limit n) (shared after n)
-    moves-within =
-        record {
-          above-stays = λ k h. omega (arith, above-stays k (omega arith));
-          sum-falls-nowhere = λ k. omega (arith, sum-le-shared after n (shared limit n) still-competes k);
-          sum-rises-within = λ k. omega (arith, sum-rises-within k);
-          moment-falls-nowhere = λ levers f. omega (arith, moment-le-shared after n (shared limit n) still-competes levers f);
-          moment-rises-within = λ levers f. omega (arith, moment-rises-within levers f);
-        }
+-- Of any rows `first` to `last`; where they are no group of the n rows, nothing moves.
+-- Each clause follows from its law by arithmetic, so one that says too much is refused with figures.
+pub moves-within : (raise : Raise) (limit : Table) (n : ℕ) → MovesWithin raise n (shared limit n) (shared (raised raise limit) n)
+moves-within raise limit n =
+    let still = still-competes raise limit n in
+    record {
+      above-stays = λ k h. omega (arith, above-stays raise limit n k (omega arith));
+      sum-falls-nowhere = λ k. omega (arith, sum-le-shared _ n (shared limit n) still k);
+      sum-rises-within = λ k. omega (arith, sum-rises-within raise limit n k);
+      moment-falls-nowhere = λ levers f. omega (arith, moment-le-shared _ n (shared limit n) still levers f);
+      moment-rises-within = λ levers f. omega (arith, moment-rises-within raise limit n levers f);
+    }

@@ -82,8 +82,8 @@ module _ (limit : Table) (n : ℕ) where
       pub same-exactly : (other ≡ shared limit n) ↔ (moment levers other ≡ moment levers (shared limit n))
       same-exactly = (
         (λ e. ap (moment levers) e),
-        (λ e. moment-eq levers (shared limit n) other 0 _ (falls-from-above levers n f) (shared-competes .rows ∙ sym (f .rows)) (c .rows ∙ sym (f .rows)) ahead
-            (omega (arith, e, zero-mul (suc (getD levers 0 0)))) .1),
+        (λ e. moment-eq levers (shared limit n) other 0 _ (falls-from-above levers n f) (shared-competes .rows ∙ sym (f .rows))
+            (c .rows ∙ sym (f .rows)) ahead (omega (arith, e, zero-mul (suc (getD levers 0 0)))) .1),
       )
 
   -- no list but the shared one is the best: demand 3 alone determines the forces

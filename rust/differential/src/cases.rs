@@ -2,8 +2,8 @@
 
 use crate::tally::Tally;
 use reference::{
-    greatest_area, minimum_pitch, panel_shear, BoltTable, Check, Column, Face, FaceResult,
-    FileKind, Joint, JointResult, LoadRefusal, OtherResult, ReadRefusal, Trouble, Verdicts,
+    greatest_area, minimum_pitch, moment, panel_shear, BoltTable, Check, Column, Face, FaceResult,
+    FileKind, Joint, JointResult, LoadRefusal, OtherResult, Raise, ReadRefusal, Trouble, Verdicts,
     WorkRefusal, WriteRefusal, LONGEST_INPUT, ROWS, SECOND_FACE, SIZES,
 };
 
@@ -306,6 +306,39 @@ fn count_order(
         Err(LoadRefusal::OutOfRange) if too_great => tally.count("load: 16 before 18"),
         Err(LoadRefusal::NotRising) if too_great => tally.count("load: 17 before 18"),
         _ => {}
+    }
+}
+
+// ---- Allocate
+
+/// How far one limit, raised, moved the forces; the levers fall.
+pub fn count_raise(
+    raise: &Raise,
+    levers: &[u64],
+    before: &[u64],
+    after: &[u64],
+    tally: &mut Tally,
+) {
+    if before == after {
+        tally.count("raised: nothing moved");
+        return;
+    }
+    let rise = moment(levers, after) - moment(levers, before);
+    let at_lever_of = |row: usize| u128::from(raise.newtons) * u128::from(levers[row]);
+    if after.iter().sum::<u64>() == before.iter().sum::<u64>() + raise.newtons {
+        tally.count("raised: the whole sum by all of it");
+    }
+    if rise == at_lever_of(raise.first) {
+        tally.count("raised: Z by all of it at the first row's lever");
+    }
+    if rise > at_lever_of(raise.last) {
+        tally.count("raised: Z by more than the last row's lever allows");
+    }
+    if before.iter().zip(after).any(|(low, high)| high < low) {
+        tally.count("raised: a row lost force");
+    }
+    if before[..=raise.first] == after[..=raise.first] {
+        tally.count("raised: the group's first row didn't move, others did");
     }
 }
 

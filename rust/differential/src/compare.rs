@@ -1,7 +1,8 @@
 //! One input, both answers.
 
 use crate::cases::{
-    count_loaded, count_own_table, count_read, count_sheet, count_worked, count_written,
+    count_loaded, count_own_table, count_raise, count_read, count_sheet, count_worked,
+    count_written,
 };
 use crate::tally::Tally;
 use proved::{
@@ -9,9 +10,13 @@ use proved::{
     RESULT_WORDS, SHORT, TABLE_WORDS,
 };
 use reference::{
-    BoltTable, FaceResult, FileKind, Joint, JointResult, BUILT_IN, LONGEST_FILE, LONGEST_INPUT,
+    broken_rule, raised, BoltTable, FaceResult, FileKind, Joint, JointResult, BUILT_IN,
+    LONGEST_FILE, LONGEST_INPUT,
 };
-use sample::{any_bolt_table, any_joint_with_own_table, file_of, file_of_kind, LimitTable, Random};
+use sample::{
+    any_bolt_table, any_joint_with_own_table, any_raise, falling_levers, file_of, file_of_kind,
+    LimitTable, Random,
+};
 use std::fmt::Debug;
 
 /// The input and both answers, for printing.
@@ -264,6 +269,45 @@ pub fn compare_allocate(
         _ => "allocate: refusal 8",
     });
     same("allocate", table, (answer, forces), (number, expected))
+}
+
+/// The proved call before and after one limit of the table is raised: each against the plain reading, and the two against each other.
+pub fn compare_raised(
+    table: &LimitTable,
+    random: &mut Random,
+    tally: &mut Tally,
+) -> Result<(), Difference> {
+    let Some(raise) = any_raise(random, table) else {
+        return Ok(());
+    };
+    let after = LimitTable {
+        count: table.count,
+        limits: raised(&raise, table.count, &table.limits),
+    };
+    compare_allocate(&after, random, tally)?;
+    let Some(low) = proved_forces(table) else {
+        return Ok(());
+    };
+    let Some(high) = proved_forces(&after) else {
+        tally.count("raised: refused after, by 8");
+        return Ok(());
+    };
+    let levers = falling_levers(random, table.count);
+    count_raise(&raise, &levers, &low, &high, tally);
+    same(
+        "allocate, one limit raised",
+        &(table, raise, &levers, &low, &high),
+        broken_rule(&raise, &levers, &low, &high),
+        None,
+    )
+}
+
+/// The rows' forces that the proved call answers, where it refuses nothing.
+fn proved_forces(table: &LimitTable) -> Option<Vec<u64>> {
+    let mut forces = vec![MARK_64; FORCES];
+    let answer = proved::allocate(table.count, &table.limits, &mut forces);
+    forces.truncate(table.count);
+    (answer == 0).then_some(forces)
 }
 
 // ---- Streams

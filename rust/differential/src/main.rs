@@ -7,8 +7,8 @@ mod compare;
 mod tally;
 
 use compare::{
-    compare_allocate, compare_built_in, compare_file, compare_load, compare_short, compare_stream,
-    compare_work, random_kind, Difference,
+    compare_allocate, compare_built_in, compare_file, compare_load, compare_raised, compare_short,
+    compare_stream, compare_work, random_kind, Difference,
 };
 use reference::BUILT_IN;
 use sample::{any_joint, any_joint_with_own_table, limit_table, stream, Random};
@@ -53,7 +53,9 @@ fn run(seed: u64, joints: u64, tally: &mut Tally) -> Result<(), Difference> {
         compare_load(&mut random, tally)?;
     }
     for _ in 0..joints {
-        compare_allocate(&limit_table(&mut random), &mut random, tally)?;
+        let table = limit_table(&mut random);
+        compare_allocate(&table, &mut random, tally)?;
+        compare_raised(&table, &mut random, tally)?;
     }
     for _ in 0..joints / 4 {
         let kind = random_kind(&mut random);

@@ -4,7 +4,7 @@ use std::collections::BTreeMap;
 use std::fmt;
 
 /// What a run of full size has to reach.
-const CASES: [&str; 129] = [
+const CASES: [&str; 136] = [
     "allocate: refusal 3",
     "allocate: refusal 7",
     "allocate: refusal 8",
@@ -20,6 +20,13 @@ const CASES: [&str; 129] = [
     "load: refusal 18",
     "load: taken",
     "load: taken, with something past the count",
+    "raised: Z by all of it at the first row's lever",
+    "raised: Z by more than the last row's lever allows",
+    "raised: a row lost force",
+    "raised: nothing moved",
+    "raised: refused after, by 8",
+    "raised: the group's first row didn't move, others did",
+    "raised: the whole sum by all of it",
     "read, old kind: joint",
     "read, old kind: refusal 1",
     "read, old kind: refusal 2",

@@ -1,5 +1,5 @@
-//! Document 01, and the rules for joints near the column end, for a beam on both faces, for bolt tables and for rows too close, read in
-//! plain Rust. It was written from the papers, with the signatures of the proved calls and some of their bodies known.
+//! Document 01, and the rules for joints near the column end, for a beam on both faces, for bolt tables, for rows too close and for one
+//! limit raised, read in plain Rust. It was written from the papers, with the signatures of the proved calls and some of their bodies known.
 //! Rows count from 0 here, from 1 in the rules.
 
 mod bolt_table;
@@ -7,6 +7,7 @@ mod compression;
 mod file;
 mod joint;
 mod outcome;
+mod raising;
 mod range;
 mod sharing;
 mod sheet;
@@ -23,6 +24,7 @@ pub use joint::{
     ROWS, SECOND_FACE,
 };
 pub use outcome::{Check, FaceResult, JointResult, OtherResult, Trouble, Verdicts, WorkRefusal};
+pub use raising::{broken_rule, moment, place, raised, Raise};
 pub use sharing::{allocate, AllocateRefusal, GROUPS};
 pub use sheet::{sheet, LONGEST_INPUT};
 pub use work::{minimum_pitch, work};

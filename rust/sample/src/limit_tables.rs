@@ -1,6 +1,7 @@
-//! Random limit tables for Allocate.
+//! Random limit tables for Allocate, raises of one of their limits, and levers.
 
 use crate::random::Random;
+use reference::{place, Raise, ROWS};
 
 /// A count of rows and the limits handed with it.
 #[derive(Debug)]
@@ -54,4 +55,42 @@ fn limit(random: &mut Random, kind: u64) -> u64 {
         4 => random.pick(&[0, 1, GREATEST, GREATEST - 1, GREATEST / 2]),
         _ => random.below(3_000_000),
     }
+}
+
+/// A raise of one group's limit, mostly to one that is still taken; none where the table hasn't a limit for each group.
+pub fn any_raise(random: &mut Random, table: &LimitTable) -> Option<Raise> {
+    let count = table.count;
+    if !(1..=ROWS).contains(&count) || table.limits.len() < count * (count + 1) / 2 {
+        return None;
+    }
+    let first = random.below(count as u64) as usize;
+    let last = first + random.below((count - first) as u64) as usize;
+    let limit = table.limits[place(count, first, last)];
+    let room = GREATEST.saturating_sub(limit);
+    let newtons = match random.below(8) {
+        0 => room,
+        1 => room + 1,
+        2 => random.below(room + 1),
+        3 => random.below(4),
+        4 => u64::from(random.of_any_size()),
+        _ => random.below(300_000),
+    };
+    Some(Raise {
+        first,
+        last,
+        newtons: newtons.min(u64::MAX - limit),
+    })
+}
+
+/// Levers that fall from row to row and are 1 or more.
+pub fn falling_levers(random: &mut Random, count: usize) -> Vec<u64> {
+    let steps = random.pick(&[1, 500, 1 << 32]);
+    let mut levers: Vec<u64> = (0..count)
+        .scan(0, |lever, _| {
+            *lever += 1 + random.below(steps);
+            Some(*lever)
+        })
+        .collect();
+    levers.reverse();
+    levers
 }
