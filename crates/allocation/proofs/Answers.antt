@@ -14,7 +14,7 @@ use Rattle.arithmetic.specs.Range.{within}
 use Rattle.arithmetic.proofs.Checks.{holds, fails, none-left, numbered, positive, numbered-holds}
 use Rattle.joint.specs.Ranges.{rowCounts}
 use Rattle.joint.specs.Places.{eightPlaces}
-use Rattle.sharing.specs.Groups.{groupCount, listed, mostLimit}
+use Rattle.sharing.specs.Groups.{Table, groupCount, listed, mostLimit}
 use Rattle.sharing.specs.Sharing.{shared}
 use Rattle.sharing.specs.Best.{Best}
 use Rattle.sharing.proofs.Theorems.{best}
@@ -29,6 +29,12 @@ at-most-eight n rows = leb-true n 8 (both (leb 1 n) (leb n 8) rows .1)
 -- n(n+1) of at most eight rows
 pub product-le : (n : ℕ) → n ≤ 8 → n * (n + 1) ≤ 72
 product-le n h = mul-le-mul {n₂ = 8} {m₂ = 9} h (omega arith)
+
+-- the places of the rows are the forces
+pub rows-kept : (n : ℕ) (limit : Table) → take n (eightPlaces (shared limit n)) ≡ shared limit n
+unfolding eightPlaces
+rows-kept n limit =
+    take-at (shared limit n) (replicate (rowCounts .high - length (shared limit n)) 0) n (best limit n .competes .rows)
 
 module _ (n : ℕ) (limits : List ℕ) where
   pub refused-by-3 : within rowCounts n ≡ false → allocated n limits ≡ refusedAllocation 3
@@ -66,18 +72,14 @@ module _ (n : ℕ) (limits : List ℕ) where
   -- an answer that is no refusal: there is a limit for each group, and the forces are the shared ones
   pub not-refused : (answer : Allocation) → allocated n limits ≡ answer → answer .refusal ≡ 0
       → (groupCount n ≤ length limits) × (take n (answer .forces) ≡ shared (listed n limits) n)
-  unfolding allocated allocateRefusals positive numbered eightPlaces
+  unfolding allocated allocateRefusals positive numbered
   not-refused answer e none =
       let passed = numbered-holds _ refusedAllocation answer
       (λ number refused. let never : suc number ≡ 0 = ap (λ a. a .refusal) refused ∙ none in absurd (omega arith))
       (allocateRefusals n limits) tt e in
-      let list = shared (listed n limits) n in (
-        leb-true _ _ (passed .0 7),
-        ap (λ a. take n (a .forces)) (sym (passed .1))
-            ∙ take-at list (replicate (8 - length list) 0) n (best (listed n limits) n .competes .rows),
-      )
+      (leb-true _ _ (passed .0 7), ap (λ a. take n (a .forces)) (sym (passed .1)) ∙ rows-kept n (listed n limits))
 
-  -- and no others are better
+  -- so they are the best
   pub no-refusal-is-best : (answer : Allocation) → allocated n limits ≡ answer → answer .refusal ≡ 0
       → Best (listed n limits) n (take n (answer .forces))
   no-refusal-is-best answer e none = rw (not-refused answer e none .1) (best (listed n limits) n)

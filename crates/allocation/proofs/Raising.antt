@@ -4,6 +4,7 @@
 use mathlib.Core.Path.{_≡_, refl, sym, ap₂, _∙_}
 use mathlib.Core.Bool.{Bool, true, false, cond, _&&_}
 use Prim.Native.Nat.{ℕ, _+_, _≤_, _<_}
+use native.Mathlib.Omega.{arith}
 use mathlib.Core.List.{List}
 use lib.ListN.{length}
 use lib.Dec.{eqb}
@@ -19,18 +20,18 @@ use Rattle.allocation.proofs.Answers.{not-refused}
 -- the table of the raised list, group by group
 raised-listed : (raise : Raise) (n : ℕ) (limits : List ℕ) → raise .first ≤ raise .last → raise .last < n → groupCount n ≤ length limits
     → (i j : ℕ) → i ≤ j → j < n → listed n (raisedLimits raise n limits) i j ≡ raised raise (listed n limits) i j
-unfolding raisedLimits raised
+unfolding raisedLimits raised listed
 raised-listed raise n limits group inside enough i j h under = go (eqb i (raise .first)) (eqb j (raise .last)) refl refl
   where
     other : ((i ≡ raise .first) × (j ≡ raise .last) → ⊥) → listed n (raisedLimits raise n limits) i j ≡ listed n limits i j
-    other = stored-other n _ _ _ limits group inside i j h under
+    other = stored-other n (raise .first) (raise .last) _ _ limits group inside (omega arith) i j h under
 
     go : (s t : Bool) → eqb i (raise .first) ≡ s → eqb j (raise .last) ≡ t
         → listed n (raisedLimits raise n limits) i j ≡ cond (s && t) (listed n limits i j + raise .newtons) (listed n limits i j)
     go true true es et =
         let first = eqb-true _ _ es in
         let last = eqb-true _ _ et in
-        stored-same n _ _ _ limits group inside enough i j first last
+        stored-same n (raise .first) (raise .last) _ _ limits group inside (omega arith) enough i j first last
         ∙ ap₂ (λ row end. listed n limits row end + raise .newtons) (sym first) (sym last)
     go true false es et = other (λ same. eqb-false _ _ et (same .1))
     go false t es et = other (λ same. eqb-false _ _ es (same .0))

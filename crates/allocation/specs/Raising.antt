@@ -3,15 +3,16 @@
 use mathlib.Core.Path.{_≡_}
 use Prim.Native.Nat.{ℕ, _+_, _≤_, _<_}
 use mathlib.Core.List.{List}
-use lib.ListN.{set, take}
-use Rattle.sharing.specs.Groups.{placeOf, listed}
+use lib.ListN.{getD, set, take}
+use Rattle.sharing.specs.Groups.{placeOf}
 use Rattle.sharing.specs.Raising.{Raise, MovesWithin}
 use Rattle.allocation.specs.Allocation.{allocated}
 
 -- The list of limits after the raise: every other number in it stays.
 unfoldable pub raisedLimits : Raise → ℕ → List ℕ → List ℕ
 raisedLimits raise n limits =
-    set limits (placeOf n (raise .first) (raise .last)) (listed n limits (raise .first) (raise .last) + raise .newtons)
+    let place = placeOf n (raise .first) (raise .last) in
+    set limits place (getD limits place 0 + raise .newtons)
 
 -- The raise is of a group of the n rows, and neither call refuses: the forces move within the raise.
 abbrev pub AllocateMovesWithin : Raise → ℕ → List ℕ → Type 0

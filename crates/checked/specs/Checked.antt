@@ -343,8 +343,8 @@ checked-I-apart = record {
 }
 
 unfoldable pub table : List Checked
-unfolding checked-A checked-B checked-C checked-A-raised checked-C-raised checked-D checked-E checked-F checked-G checked-H checked-I checked-I-pushed checked-I-file
-    checked-I-both checked-I-panel checked-loading checked-I-own checked-I-apart
+unfolding checked-A checked-B checked-C checked-A-raised checked-C-raised checked-D checked-E checked-F checked-G checked-H
+    checked-I checked-I-pushed checked-I-file checked-I-both checked-I-panel checked-loading checked-I-own checked-I-apart
 table =
     checked-A ∷ checked-B ∷ checked-C ∷ checked-A-raised ∷ checked-C-raised ∷ checked-D ∷ checked-E ∷ checked-F ∷ checked-G ∷ checked-H
     ∷ checked-I ∷ checked-I-pushed ∷ checked-I-file ∷ checked-I-both ∷ checked-I-panel ∷ checked-loading ∷ checked-I-own

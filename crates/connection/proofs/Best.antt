@@ -34,7 +34,7 @@ use Rattle.outcome.specs.declared.FaceOutcome.{FaceOutcome}
 use Rattle.connection.specs.OneFace.{boltOf, rowsOf, leversOf, limitOf, capOf, forcesOf, carriesOf}
 use Rattle.connection.specs.Connection.{refusalsAfter10, resultOf, workedFace, workedConnection}
 use Rattle.connection.specs.Demand.{CompetesFor, Demand3, Demand3For, programsList}
-use Rattle.connection.proofs.Forces.{rows-kept}
+use Rattle.allocation.proofs.Answers.{rows-kept}
 use Rattle.connection.proofs.Answers.{admissible, not-refused, in-range-of}
 
 module _ (panelCounts : Bool) (column : Column) (bolt : BoltStrengths) (face : Face) (a : Admissible column face)

@@ -5,51 +5,43 @@ use mathlib.Core.Bool.{Bool, true, false, cond, _&&_}
 use Prim.Native.Nat.{ℕ, zero, suc, _-_, _≤_, _<_, zero-le, min}
 use native.Mathlib.Omega.{arith}
 use mathlib.Core.List.{List}
-use lib.ListN.{length, getD, set, take, replicate, length-set}
-use lib.Seq.{take-at}
+use lib.ListN.{length, getD, set, replicate, length-set}
 use lib.Dec.{eqb}
 use borrow.Author.Tests.{eqb-true, eqb-false}
 use Rattle.arithmetic.proofs.Store.{store-keeps}
-use Rattle.sharing.specs.Groups.{Table, groupsAbove, placeOf, listed, withCap, mostLimit}
+use Rattle.sharing.specs.Groups.{Table, groupsAbove, groupCount, placeOf, listed, withCap, mostLimit}
 use Rattle.sharing.specs.Sharing.{shared}
 use Rattle.sharing.proofs.Places.{group-count-le, stored-same, stored-other}
 use Rattle.sharing.proofs.Agreement.{shared-agrees}
-use Rattle.sharing.proofs.Theorems.{best}
 use Rattle.joint.specs.Ranges.{rowCounts}
-use Rattle.joint.specs.Places.{eightPlaces}
 use Rattle.allocation.specs.Steps.{Shareable}
 use Rattle.tension.specs.Admissible.{tablePlaces, TableFilled}
 use Rattle.tension.proofs.Filling.{none-above}
 
--- the places of the rows are the forces
-pub rows-kept : (n : ℕ) (limit : Table) → take n (eightPlaces (shared limit n)) ≡ shared limit n
-unfolding eightPlaces
-rows-kept n limit =
-    take-at (shared limit n) (replicate (rowCounts .high - length (shared limit n)) 0) n (best limit n .competes .rows)
-
 module _ (n cap : ℕ) (limit : Table) (entry table : List ℕ) (filled : TableFilled n limit entry table) (some : 1 ≤ n)
     (few : n ≤ rowCounts .high) (stored : ℕ) (lower : stored ≡ min (getD table (n - 1) 0) cap) where
-  -- the place of group 1 to n
-  whole : placeOf n 0 (n - 1) ≡ n - 1
+  -- group 1 to n has the n-th place
+  whole : n - 1 ≡ placeOf n 0 (n - 1)
   unfolding groupsAbove
   whole = omega arith
 
   agrees : (i j : ℕ) → i ≤ j → j < n → listed n (set table (n - 1) stored) i j ≡ withCap limit n cap i j
   unfolding listed withCap
-  agrees i j h under = ap (λ place. listed n (set table place stored) i j) (sym whole) ∙ go (eqb i 0) (eqb (suc j) n) refl refl
+  agrees i j h under = go (eqb i 0) (eqb (suc j) n) refl refl
     where
-      other : ((i ≡ 0) × (j ≡ n - 1) → ⊥) → listed n (set table (placeOf n 0 (n - 1)) stored) i j ≡ limit i j
+      other : ((i ≡ 0) × (j ≡ n - 1) → ⊥) → listed n (set table (n - 1) stored) i j ≡ limit i j
       other no-whole =
-          stored-other n 0 (n - 1) stored table (omega arith) (omega arith) i j h under no-whole ∙ filled .agrees i j h under
+          stored-other n 0 (n - 1) (n - 1) stored table (omega arith) (omega arith) whole i j h under no-whole ∙ filled .agrees i j h under
 
       go : (top last : Bool) → eqb i 0 ≡ top → eqb (suc j) n ≡ last
-          → listed n (set table (placeOf n 0 (n - 1)) stored) i j ≡ cond (top && last) (min (limit i j) cap) (limit i j)
+          → listed n (set table (n - 1) stored) i j ≡ cond (top && last) (min (limit i j) cap) (limit i j)
       go true true et el =
           let top = eqb-true i 0 et in
           let end = eqb-true (suc j) n el in
           let last : j ≡ n - 1 = omega arith in
-          let own = ap (λ place. getD table place 0) (sym whole ∙ ap₂ (placeOf n) (sym top) (sym last)) ∙ filled .agrees i j h under in
-          stored-same n 0 (n - 1) stored table (omega arith) (omega arith) (omega (arith, filled .size, group-count-le n few)) i j top last
+          let own = ap (λ place. getD table place 0) (whole ∙ ap₂ (placeOf n) (sym top) (sym last)) ∙ filled .agrees i j h under in
+          let enough : groupCount n ≤ length table = omega (arith, filled .size, group-count-le n few) in
+          stored-same n 0 (n - 1) (n - 1) stored table (omega arith) (omega arith) whole enough i j top last
           ∙ lower
           ∙ ap (λ l. min l cap) own
       go true false et el = other (λ w. eqb-false (suc j) n el (omega (arith, w .1)))

@@ -8,7 +8,7 @@ use native.Mathlib.Numerals.{add-one}
 use native.Mathlib.Decide.{decLe}
 use native.Mathlib.Omega.{arith}
 use mathlib.Core.List.{List}
-use lib.ListN.{length, set}
+use lib.ListN.{length, getD, set}
 use lib.Seq.{getD-set-same, getD-set-other}
 use Rattle.sharing.specs.Groups.{groupsAbove, placeOf, groupCount, listed}
 
@@ -68,16 +68,17 @@ one-group-a-place n a b i j hb inside hj under e =
     same-row (yes p) (no q) = absurd (omega (arith, upper-first n a b i hb inside (omega arith)))
     same-row (no p) q = absurd (omega (arith, upper-first n i j a hj under (omega arith)))
 
-module _ (n a b x : ℕ) (limits : List ℕ) (hb : a ≤ b) (inside : b < n) where
+module _ (n a b place x : ℕ) (limits : List ℕ) (hb : a ≤ b) (inside : b < n) (here : place ≡ placeOf n a b) where
   -- a limit stored at a group's place is that group's
-  pub stored-same : groupCount n ≤ length limits → (i j : ℕ) → i ≡ a → j ≡ b → listed n (set limits (placeOf n a b) x) i j ≡ x
+  pub stored-same : groupCount n ≤ length limits → (i j : ℕ) → i ≡ a → j ≡ b → listed n (set limits place x) i j ≡ x
   unfolding listed
   stored-same enough i j first last =
-      ap₂ (λ row end. listed n (set limits (placeOf n a b) x) row end) first last
-      ∙ getD-set-same limits (placeOf n a b) x 0 (omega (arith, groups-inside n a (omega arith)))
+      let own : placeOf n i j ≡ place = ap₂ (placeOf n) first last ∙ sym here in
+      ap (λ k. getD (set limits place x) k 0) own
+      ∙ getD-set-same limits place x 0 (omega (arith, groups-inside n a (omega arith)))
 
   -- and every other group keeps its own
-  pub stored-other : (i j : ℕ) → i ≤ j → j < n → ((i ≡ a) × (j ≡ b) → ⊥) → listed n (set limits (placeOf n a b) x) i j ≡ listed n limits i j
+  pub stored-other : (i j : ℕ) → i ≤ j → j < n → ((i ≡ a) × (j ≡ b) → ⊥) → listed n (set limits place x) i j ≡ listed n limits i j
   unfolding listed
   stored-other i j hj under other =
-      getD-set-other limits (placeOf n a b) (placeOf n i j) x 0 (λ e. other (one-group-a-place n i j a b hj under hb inside e))
+      getD-set-other limits place (placeOf n i j) x 0 (λ e. other (one-group-a-place n i j a b hj under hb inside (e ∙ here)))

@@ -4,10 +4,9 @@
 -- have what they had, and the lowered limit is up by the raise at most. Groups that begin below: their lowered limits are what they were,
 -- and the rows above have got the raise more at most. Assumes nothing.
 use mathlib.Core.Path.{_≡_, refl, sym, ap, _∙_}
-use mathlib.Core.Logic.{⊎-elim}
 use mathlib.Core.Bool.{Bool, true, false, cond, _&&_}
-use Prim.Native.Nat.{ℕ, zero, suc, _+_, _-_, _*_, _≤_, _<_, min}
-use native.Mathlib.Nat.{le-refl, le-trans, le-suc-iff}
+use Prim.Native.Nat.{ℕ, suc, _+_, _-_, _*_, _≤_, _<_, min}
+use native.Mathlib.Nat.{le-refl, le-trans}
 use native.Mathlib.Decide.{decLe}
 use native.Mathlib.Omega.{arith}
 use mathlib.Core.List.{List}
@@ -16,12 +15,11 @@ use lib.Dec.{eqb}
 use borrow.Author.Tests.{eqb-true}
 use Rattle.sharing.specs.Groups.{Table, total}
 use Rattle.sharing.specs.Sharing.{lowered, forcesDownTo, shared, Competes, Falling, moment}
-use Rattle.sharing.specs.Raising.{Raise, raised, MovesWithin}
+use Rattle.sharing.specs.Raising.{Raise, raised, SharedMovesWithin}
 use Rattle.sharing.proofs.Least.{least-le, le-least}
-use Rattle.sharing.proofs.Totals.{take-rows}
-use Rattle.sharing.proofs.Sums.{sumDownTo, sum-le, le-sum}
-use Rattle.sharing.proofs.Moments.{falls-from-above, moment-within}
-use Rattle.sharing.proofs.Theorems.{sum-shared, shared-competes, sum-le-shared, moment-le-shared}
+use Rattle.sharing.proofs.Sums.{sumDownTo, sum-shared, sum-le, sums-within}
+use Rattle.sharing.proofs.Moments.{falling-from, moment-within}
+use Rattle.sharing.proofs.Theorems.{shared-competes, sum-le-shared, moment-le-shared}
 use Rattle.sharing.proofs.Agreement.{lowered-agrees, rows-agree}
 
 module _ (raise : Raise) (limit : Table) where
@@ -67,55 +65,39 @@ module _ (raise : Raise) (limit : Table) where
 
     -- what the group of rows i to k allows the sum down to row k
     allowed-rises-within : (k i : ℕ) → i ≤ k → k < n → sumDownTo after n i ≤ sumDownTo limit n i + raise .newtons
-        → sumDownTo after n i + lowered after n i k ≤ sumDownTo limit n i + lowered limit n i k + raise .newtons
+        → sumDownTo after n (suc k) ≤ sumDownTo limit n i + lowered limit n i k + raise .newtons
     allowed-rises-within k i h inside above =
+        let allowed = sum-le after n k i inside h in
         elim (decLe i (raise .first)) [
           | yes early ↦
-              let rows : i ≤ n = omega arith in
-              omega (arith, above-stays i early, sum-shared after n i rows, sum-shared limit n i rows, lowered-rises-within i k)
+              let rows : min i n ≡ i = omega arith in
+              omega (
+                arith,
+                above-stays i early,
+                rw rows at (sum-shared after n i),
+                rw rows at (sum-shared limit n i),
+                lowered-rises-within i k,
+              )
           | no late ↦
               let same = lowered-agrees after limit n i k inside (λ last hl under. raised-elsewhere i last (λ e. late (omega arith))) in
               omega arith
         ]
 
-    next-rises-within : (k : ℕ) → k < n → ((i : ℕ) → i ≤ k → sumDownTo after n i ≤ sumDownTo limit n i + raise .newtons)
-        → sumDownTo after n (suc k) ≤ sumDownTo limit n (suc k) + raise .newtons
-    next-rises-within k inside above =
-        let sum = le-sum limit n k (sumDownTo after n (suc k) - raise .newtons)
-        (λ i h. omega (arith, sum-le after n k i inside h, allowed-rises-within k i h inside (above i h))) in
-        omega arith
-
-    -- down to row k, and to each row above it
-    sum-rises-inside : (k m : ℕ) → m ≤ k → m ≤ n → sumDownTo after n m ≤ sumDownTo limit n m + raise .newtons
-    unfolding sumDownTo forcesDownTo
-    sum-rises-inside zero m h inside = let top : m ≡ 0 = omega arith in rw top (omega arith)
-    sum-rises-inside (suc k) m h inside =
-        ⊎-elim
-        (λ below. sum-rises-inside k m below inside)
-        (λ last. rw last (next-rises-within k (omega arith) (λ i hi. sum-rises-inside k i hi (omega arith))))
-        (le-suc-iff .0 h)
-
     sum-rises-within : (k : ℕ) → total (take k (shared after n)) ≤ total (take k (shared limit n)) + raise .newtons
+    unfolding sumDownTo forcesDownTo
     sum-rises-within k =
-        let rows : min k n ≤ n = omega arith in
-        rw (
-          take-rows (shared limit n) n k (shared-competes limit n .rows),
-          take-rows (shared after n) n k (shared-competes after n .rows),
-          sum-shared limit n (min k n) rows,
-          sum-shared after n (min k n) rows,
-        )
-        (sum-rises-inside (min k n) (min k n) (le-refl (min k n)) rows)
+        let within = sums-within limit n (sumDownTo after n) (raise .newtons) (omega arith) allowed-rises-within (min k n) (omega arith) in
+        omega (arith, sum-shared after n k, sum-shared limit n k)
 
     moment-rises-within : (levers : List ℕ) → Falling levers n
         → moment levers (shared after n) ≤ moment levers (shared limit n) + raise .newtons * getD levers (raise .first) 0
     moment-rises-within levers f =
-        moment-within (raise .first) levers (shared limit n) (shared after n) (raise .newtons) _ (falls-from-above levers n f)
+        moment-within (raise .first) levers (shared limit n) (shared after n) (raise .newtons) _ (falling-from levers n _ f (le-refl _))
         (shared-competes limit n .rows ∙ sym (f .rows)) (shared-competes after n .rows ∙ sym (f .rows)) above-stays
         (λ k. let rise = sum-rises-within k in omega arith)
 
--- Of any rows `first` to `last`; where they are no group of the n rows, nothing moves.
 -- Each clause follows from its law by arithmetic, so one that says too much is refused with figures.
-pub moves-within : (raise : Raise) (limit : Table) (n : ℕ) → MovesWithin raise n (shared limit n) (shared (raised raise limit) n)
+pub moves-within : (raise : Raise) (limit : Table) (n : ℕ) → SharedMovesWithin raise limit n
 moves-within raise limit n =
     let still = still-competes raise limit n in
     record {

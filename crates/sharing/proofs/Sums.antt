@@ -1,11 +1,11 @@
 -- The sum of the forces from the top row down to a row is the greatest number that no group ending there forbids:
 -- at most what the rows above row i have got and the lowered limit of rows i to k together, for each i, and nothing larger is.
 -- By induction over the rows; no difference wraps, since a lowered limit grows as the group reaches further.
--- Assumes nothing.
+-- So sums that every group holds to within some newtons of the shared ones are within these newtons of them. Assumes nothing.
 use mathlib.Core.Path.{_≡_, refl, sym, ap, _∙_}
 use mathlib.Core.Logic.{⊎-elim}
 use Prim.Native.Nat.{ℕ, zero, suc, _+_, _-_, _≤_, _<_, min}
-use native.Mathlib.Nat.{le-trans, le-of-eq, le-suc-iff}
+use native.Mathlib.Nat.{le-refl, le-trans, le-of-eq, le-suc-iff}
 use mathlib.Core.List.{List}
 use native.Mathlib.Omega.{arith}
 use native.Mathlib.Numerals.{add-one}
@@ -39,10 +39,14 @@ module _ (limit : Table) (n : ℕ) where
       (λ last. rw last (take-all (suc k) _ (le-of-eq (length-forces (suc k)))))
       (le-suc-iff .0 h)
 
-  -- the first k of the shared forces, those of all rows where there are no k
+  -- the first k of the shared forces, all of them where there are fewer
   pub take-shared : (k : ℕ) → take k (shared limit n) ≡ forcesDownTo limit n (min k n)
   unfolding shared
   take-shared k = take-rows (forcesDownTo limit n n) n k (length-forces n) ∙ take-forces n (min k n) (omega arith)
+
+  pub sum-shared : (k : ℕ) → total (take k (shared limit n)) ≡ sumDownTo limit n (min k n)
+  unfolding sumDownTo
+  sum-shared k = ap total (take-shared k)
 
   -- what rows i to k − 1 have got
   sum-between : (k i : ℕ) → i ≤ k → sumDownTo limit n i + total (drop i (forcesDownTo limit n k)) ≡ sumDownTo limit n k
@@ -86,3 +90,22 @@ module _ (limit : Table) (n : ℕ) where
       = rw (length-forces k) (λ i h. let b = below i h in omega (arith, sum-between k i h)) in
       let force = le-next above (x - sumDownTo limit n k) allowed in
       omega (arith, sum-step k)
+
+  -- Other sums, which every group holds to at most `more` newtons above what it allows the shared sum, given that they are no further
+  -- above the shared sum where the group begins: then they are nowhere further above it.
+  module _ (sum : ℕ → ℕ) (more : ℕ) (top : sum 0 ≤ more)
+      (held : (k i : ℕ) → i ≤ k → k < n → sum i ≤ sumDownTo limit n i + more
+      → sum (suc k) ≤ sumDownTo limit n i + lowered limit n i k + more) where
+    -- down to row k, and to each row above it
+    within-down-to : (k m : ℕ) → m ≤ k → m ≤ n → sum m ≤ sumDownTo limit n m + more
+    within-down-to zero m h inside = let none : m ≡ 0 = omega arith in rw none (omega (arith, top))
+    within-down-to (suc k) m h inside =
+        ⊎-elim
+        (λ below. within-down-to k m below inside)
+        (λ last. rw last
+        (let next = le-sum k (sum (suc k) - more)
+        (λ i hi. omega (arith, held k i hi (omega arith) (within-down-to k i hi (omega arith)))) in omega arith))
+        (le-suc-iff .0 h)
+
+    pub sums-within : (k : ℕ) → k ≤ n → sum k ≤ sumDownTo limit n k + more
+    sums-within k inside = within-down-to k k (le-refl k) inside

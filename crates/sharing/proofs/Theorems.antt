@@ -3,10 +3,10 @@
 -- A list that competes keeps the lowered limits too, since no force is below zero; so each of its sums from the top is one
 -- that no group forbids, and the shared sums are the greatest of those. Assumes nothing.
 use mathlib.Core.Path.{_≡_, refl, sym, ap, _∙_}
-use mathlib.Core.Logic.{⊎-elim, _↔_}
+use mathlib.Core.Logic.{_↔_}
 use mathlib.Core.Bool.{Bool, true, false}
-use Prim.Native.Nat.{ℕ, zero, suc, _+_, _-_, _≤_, _<_, min}
-use native.Mathlib.Nat.{le-refl, le-antisymm, le-suc-iff, zero-mul, zero-add}
+use Prim.Native.Nat.{ℕ, suc, _+_, _-_, _≤_, _<_, min}
+use native.Mathlib.Nat.{le-refl, le-antisymm, zero-mul, zero-add}
 use native.Mathlib.Omega.{arith}
 use mathlib.Core.List.{List}
 use lib.ListN.{take, getD}
@@ -16,15 +16,10 @@ use Rattle.sharing.specs.Best.{Best}
 use Rattle.sharing.proofs.Least.{le-least}
 use Rattle.sharing.proofs.Totals.{total-take-le, take-rows, sums-determine, above-and-group}
 use Rattle.sharing.proofs.Lowering.{lowered-le}
-use Rattle.sharing.proofs.Sums.{sumDownTo, length-forces, take-forces, sum-le, le-sum}
-use Rattle.sharing.proofs.Moments.{falls-from-above, moment-le, moment-eq}
+use Rattle.sharing.proofs.Sums.{sumDownTo, length-forces, sum-shared, sum-le, sums-within}
+use Rattle.sharing.proofs.Moments.{falling-from, moment-le, moment-eq}
 
 module _ (limit : Table) (n : ℕ) where
-  -- the sum of the shared forces down to a row
-  pub sum-shared : (k : ℕ) → k ≤ n → total (take k (shared limit n)) ≡ sumDownTo limit n k
-  unfolding shared sumDownTo
-  sum-shared k h = ap total (take-forces limit n n k h)
-
   pub shared-competes : Competes limit n (shared limit n)
   unfolding shared
   shared-competes =
@@ -32,7 +27,15 @@ module _ (limit : Table) (n : ℕ) where
         rows = length-forces limit n n;
         keeps = λ i j h inside.
             let sum = above-and-group (shared limit n) i j h in
-            omega (arith, sum-shared i (omega arith), sum-shared (suc j) inside, sum-le limit n j i inside h, lowered-le limit n i j);
+            let upper : min i n ≡ i = omega arith in
+            let lower : min (suc j) n ≡ suc j = omega arith in
+            omega (
+              arith,
+              rw upper at (sum-shared limit n i),
+              rw lower at (sum-shared limit n (suc j)),
+              sum-le limit n j i inside h,
+              lowered-le limit n i j,
+            );
       }
 
   module _ (other : List ℕ) (c : Competes limit n other) where
@@ -49,25 +52,15 @@ module _ (limit : Table) (n : ℕ) where
         let kept = c .keeps i (j + d) (omega arith) (omega arith) in
         omega (arith, ap (λ k. total (take k other)) same))
 
-    -- down to row k, and to each row above it
-    sum-le-inside : (k m : ℕ) → m ≤ k → m ≤ n → total (take m other) ≤ sumDownTo limit n m
-    sum-le-inside zero m h inside = let top : m ≡ 0 = omega arith in rw top (omega arith)
-    sum-le-inside (suc k) m h inside =
-        ⊎-elim
-        (λ below. sum-le-inside k m below inside)
-        (λ last. rw last
-        (le-sum limit n k _
-        (λ i hi.
-        let above = sum-le-inside k i hi (omega arith) in
-        let group = keeps-lowered i k hi (omega arith) in
-        omega (arith, above-and-group other i k hi))))
-        (le-suc-iff .0 h)
+    sum-le-inside : (k : ℕ) → k ≤ n → total (take k other) ≤ sumDownTo limit n k
+    sum-le-inside k inside =
+        let within = sums-within limit n (λ m. total (take m other)) 0 (omega arith)
+        (λ k i h under above. omega (arith, keeps-lowered i k h under, above-and-group other i k h)) k inside in
+        omega arith
 
     pub sum-le-shared : (k : ℕ) → total (take k other) ≤ total (take k (shared limit n))
     sum-le-shared k =
-        let rows : min k n ≤ n = omega arith in
-        rw (take-rows other n k (c .rows), take-rows (shared limit n) n k (shared-competes .rows), sum-shared (min k n) rows)
-        (sum-le-inside (min k n) (min k n) (le-refl (min k n)) rows)
+        omega (arith, ap total (take-rows other n k (c .rows)), sum-shared limit n k, sum-le-inside (min k n) (omega arith))
 
     module _ (levers : List ℕ) (f : Falling levers n) where
       ahead : (k : ℕ) → total (take k other) ≤ 0 + total (take k (shared limit n))
@@ -75,15 +68,16 @@ module _ (limit : Table) (n : ℕ) where
 
       pub moment-le-shared : moment levers other ≤ moment levers (shared limit n)
       moment-le-shared =
-          let m = moment-le levers (shared limit n) other 0 _ (falls-from-above levers n f) (shared-competes .rows ∙ sym (f .rows))
+          let m = moment-le levers (shared limit n) other 0 _ (falling-from levers n _ f (le-refl _)) (shared-competes .rows ∙ sym (f .rows))
           (c .rows ∙ sym (f .rows)) ahead in
-          omega (arith, zero-mul (suc (getD levers 0 0)))
+          omega (arith, zero-mul (getD levers 0 0))
 
       pub same-exactly : (other ≡ shared limit n) ↔ (moment levers other ≡ moment levers (shared limit n))
       same-exactly = (
         (λ e. ap (moment levers) e),
-        (λ e. moment-eq levers (shared limit n) other 0 _ (falls-from-above levers n f) (shared-competes .rows ∙ sym (f .rows))
-            (c .rows ∙ sym (f .rows)) ahead (omega (arith, e, zero-mul (suc (getD levers 0 0)))) .1),
+        (λ e. moment-eq levers (shared limit n) other 0 (suc (getD levers 0 0)) (falling-from levers n _ f (omega arith)) (omega arith)
+            (shared-competes .rows ∙ sym (f .rows)) (c .rows ∙ sym (f .rows)) ahead
+            (omega (arith, e, zero-mul (suc (getD levers 0 0)))) .1),
       )
 
   -- no list but the shared one is the best: demand 3 alone determines the forces

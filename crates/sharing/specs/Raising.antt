@@ -7,7 +7,7 @@ use mathlib.Core.List.{List}
 use lib.ListN.{getD, take}
 use lib.Dec.{eqb}
 use Rattle.sharing.specs.Groups.{Table, total}
-use Rattle.sharing.specs.Sharing.{Falling, moment}
+use Rattle.sharing.specs.Sharing.{shared, Falling, moment}
 
 -- The limit of the group of rows `first` to `last` goes up by so many newtons.
 pub record Raise : Type 0 where
@@ -26,7 +26,11 @@ pub record MovesWithin (raise : Raise) (n : ℕ) (before after : List ℕ) : Typ
   -- no sum from the top falls, and none rises by more than the limit did
   pub sum-falls-nowhere : (k : ℕ) → total (take k before) ≤ total (take k after)
   pub sum-rises-within : (k : ℕ) → total (take k after) ≤ total (take k before) + raise .newtons
-  -- Z doesn't fall either, and rises by no more than that at the lever of the group's first row
+  -- Z doesn't fall either, and rises by no more than the raise times the lever of the group's first row
   pub moment-falls-nowhere : (levers : List ℕ) → Falling levers n → moment levers before ≤ moment levers after
   pub moment-rises-within : (levers : List ℕ) → Falling levers n
       → moment levers after ≤ moment levers before + raise .newtons * getD levers (raise .first) 0
+
+-- The theorem about tables, for any count of rows. Where `first` to `last` are no group of the n rows, nothing moves.
+abbrev pub SharedMovesWithin : Raise → Table → ℕ → Type 0
+SharedMovesWithin raise limit n = MovesWithin raise n (shared limit n) (shared (raised raise limit) n)

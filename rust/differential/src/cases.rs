@@ -323,6 +323,7 @@ pub fn count_raise(
         tally.count("raised: nothing moved");
         return;
     }
+    tally.count("raised: something moved");
     let rise = moment(levers, after) - moment(levers, before);
     let at_lever_of = |row: usize| u128::from(raise.newtons) * u128::from(levers[row]);
     if after.iter().sum::<u64>() == before.iter().sum::<u64>() + raise.newtons {

@@ -271,7 +271,7 @@ pub fn compare_allocate(
     same("allocate", table, (answer, forces), (number, expected))
 }
 
-/// The proved call before and after one limit of the table is raised: each against the plain reading, and the two against each other.
+/// The proved call after one limit of the table is raised, against the plain reading and against what it answered before.
 pub fn compare_raised(
     table: &LimitTable,
     random: &mut Random,
@@ -285,21 +285,22 @@ pub fn compare_raised(
         limits: raised(&raise, table.count, &table.limits),
     };
     compare_allocate(&after, random, tally)?;
-    let Some(low) = proved_forces(table) else {
+    let Some(forces) = proved_forces(table) else {
         return Ok(());
     };
-    let Some(high) = proved_forces(&after) else {
+    let Some(forces_after) = proved_forces(&after) else {
         tally.count("raised: refused after, by 8");
         return Ok(());
     };
     let levers = falling_levers(random, table.count);
-    count_raise(&raise, &levers, &low, &high, tally);
     same(
         "allocate, one limit raised",
-        &(table, raise, &levers, &low, &high),
-        broken_rule(&raise, &levers, &low, &high),
+        &(table, raise, &levers, &forces, &forces_after),
+        broken_rule(&raise, &levers, &forces, &forces_after),
         None,
-    )
+    )?;
+    count_raise(&raise, &levers, &forces, &forces_after, tally);
+    Ok(())
 }
 
 /// The rows' forces that the proved call answers, where it refuses nothing.

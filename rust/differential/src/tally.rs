@@ -4,7 +4,7 @@ use std::collections::BTreeMap;
 use std::fmt;
 
 /// What a run of full size has to reach.
-const CASES: [&str; 136] = [
+const CASES: [&str; 137] = [
     "allocate: refusal 3",
     "allocate: refusal 7",
     "allocate: refusal 8",
@@ -25,6 +25,7 @@ const CASES: [&str; 136] = [
     "raised: a row lost force",
     "raised: nothing moved",
     "raised: refused after, by 8",
+    "raised: something moved",
     "raised: the group's first row didn't move, others did",
     "raised: the whole sum by all of it",
     "read, old kind: joint",

@@ -53,15 +53,13 @@ pub fn share(count: usize, limits: &[u64]) -> [u64; ROWS] {
 #[cfg(test)]
 mod tests {
     use super::*;
+    use crate::raising::place;
 
     /// Document 01's words, one by one.
     fn as_written(count: usize, limits: &[u64]) -> [u64; ROWS] {
-        let place = |first: usize, last: usize| {
-            (0..first).map(|row| count - row).sum::<usize>() + last - first
-        };
         let lowered = |first: usize, last: usize| {
             (last..count)
-                .map(|end| limits[place(first, end)])
+                .map(|end| limits[place(count, first, end)])
                 .min()
                 .unwrap()
         };

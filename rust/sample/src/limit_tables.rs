@@ -57,7 +57,7 @@ fn limit(random: &mut Random, kind: u64) -> u64 {
     }
 }
 
-/// A raise of one group's limit, mostly to one that is still taken; none where the table hasn't a limit for each group.
+/// A raise of one group's limit, mostly to one that is still taken; none where the count isn't one of rows or the limits are too few.
 pub fn any_raise(random: &mut Random, table: &LimitTable) -> Option<Raise> {
     let count = table.count;
     if !(1..=ROWS).contains(&count) || table.limits.len() < count * (count + 1) / 2 {

@@ -12,7 +12,7 @@ use Rattle.verdicts.specs.Tally.{tallyOf}
 use Rattle.connection.specs.OneFace.{leversOf, limitOf, forcesOf, verdictsOf}
 use Rattle.connection.specs.Connection.{resultOf}
 use Rattle.connection.specs.Steps.{FaceCap}
-use Rattle.connection.proofs.Forces.{rows-kept}
+use Rattle.allocation.proofs.Answers.{rows-kept}
 use borrow.Author.Needs.{needs}
 use Rattle.connection.proofs.result_of.Statement.{statement}
 use Rattle.connection.proofs.result_of.Tie as tie
