@@ -17,7 +17,7 @@ use Rattle.sharing.specs.Groups.{Table, total}
 use Rattle.sharing.specs.Sharing.{lowered, forcesDownTo, shared, Competes, Falling, moment}
 use Rattle.sharing.specs.Raising.{Raise, raised, SharedMovesWithin}
 use Rattle.sharing.proofs.Least.{least-le, le-least}
-use Rattle.sharing.proofs.Sums.{sumDownTo, sum-shared, sum-le, sums-within}
+use Rattle.sharing.proofs.Sums.{sumDownTo, sum-shared, sum-inside, sum-le, sums-within}
 use Rattle.sharing.proofs.Moments.{falling-from, moment-within}
 use Rattle.sharing.proofs.Theorems.{shared-competes, sum-le-shared, moment-le-shared}
 use Rattle.sharing.proofs.Agreement.{lowered-agrees, rows-agree}
@@ -70,14 +70,8 @@ module _ (raise : Raise) (limit : Table) where
         let allowed = sum-le after n k i inside h in
         elim (decLe i (raise .first)) [
           | yes early ↦
-              let rows : min i n ≡ i = omega arith in
-              omega (
-                arith,
-                above-stays i early,
-                rw rows at (sum-shared after n i),
-                rw rows at (sum-shared limit n i),
-                lowered-rises-within i k,
-              )
+              let rows : i ≤ n = omega arith in
+              omega (arith, above-stays i early, sum-inside after n i rows, sum-inside limit n i rows, lowered-rises-within i k)
           | no late ↦
               let same = lowered-agrees after limit n i k inside (λ last hl under. raised-elsewhere i last (λ e. late (omega arith))) in
               omega arith

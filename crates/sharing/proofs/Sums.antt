@@ -28,7 +28,7 @@ module _ (limit : Table) (n : ℕ) where
   length-forces (suc k) =
       length-append (forcesDownTo limit n k) _ ∙ ap (λ m. m + 1) (length-forces k) ∙ add-one k
 
-  pub take-forces : (k m : ℕ) → m ≤ k → take m (forcesDownTo limit n k) ≡ forcesDownTo limit n m
+  take-forces : (k m : ℕ) → m ≤ k → take m (forcesDownTo limit n k) ≡ forcesDownTo limit n m
   unfolding forcesDownTo
   take-forces zero m h = let top : m ≡ 0 = omega arith in rw top
   take-forces (suc k) m h =
@@ -47,6 +47,9 @@ module _ (limit : Table) (n : ℕ) where
   pub sum-shared : (k : ℕ) → total (take k (shared limit n)) ≡ sumDownTo limit n (min k n)
   unfolding sumDownTo
   sum-shared k = ap total (take-shared k)
+
+  pub sum-inside : (k : ℕ) → k ≤ n → total (take k (shared limit n)) ≡ sumDownTo limit n k
+  sum-inside k h = let rows : min k n ≡ k = omega arith in rw rows at (sum-shared k)
 
   -- what rows i to k − 1 have got
   sum-between : (k i : ℕ) → i ≤ k → sumDownTo limit n i + total (drop i (forcesDownTo limit n k)) ≡ sumDownTo limit n k

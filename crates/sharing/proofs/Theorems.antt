@@ -16,7 +16,7 @@ use Rattle.sharing.specs.Best.{Best}
 use Rattle.sharing.proofs.Least.{le-least}
 use Rattle.sharing.proofs.Totals.{total-take-le, take-rows, sums-determine, above-and-group}
 use Rattle.sharing.proofs.Lowering.{lowered-le}
-use Rattle.sharing.proofs.Sums.{sumDownTo, length-forces, sum-shared, sum-le, sums-within}
+use Rattle.sharing.proofs.Sums.{sumDownTo, length-forces, sum-shared, sum-inside, sum-le, sums-within}
 use Rattle.sharing.proofs.Moments.{falling-from, moment-le, moment-eq}
 
 module _ (limit : Table) (n : ℕ) where
@@ -27,15 +27,8 @@ module _ (limit : Table) (n : ℕ) where
         rows = length-forces limit n n;
         keeps = λ i j h inside.
             let sum = above-and-group (shared limit n) i j h in
-            let upper : min i n ≡ i = omega arith in
-            let lower : min (suc j) n ≡ suc j = omega arith in
-            omega (
-              arith,
-              rw upper at (sum-shared limit n i),
-              rw lower at (sum-shared limit n (suc j)),
-              sum-le limit n j i inside h,
-              lowered-le limit n i j,
-            );
+            let rows : i ≤ n = omega arith in
+            omega (arith, sum-inside limit n i rows, sum-inside limit n (suc j) inside, sum-le limit n j i inside h, lowered-le limit n i j);
       }
 
   module _ (other : List ℕ) (c : Competes limit n other) where
