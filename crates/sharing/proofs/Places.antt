@@ -22,7 +22,7 @@ triangle zero m = simp zero-add (omega arith)
 triangle (suc i) m =
     let rows : suc i + m ≡ i + suc m = suc-add i m ∙ sym (add-suc i m) in
     let above = triangle i (suc m) in
-    rw rows (omega (arith, above, next_triangle m))
+    rw rows (omega (arith, above, next_triangle m, ap (λ n. groups_above n i) rows))
 
 pub all_groups : (n : ℕ) → groups_above n n ≡ group_count n
 unfolding group_count
