@@ -1,5 +1,7 @@
 // Allocate: limits of row groups become row forces (rules 6 and 10).
 // Rows count from 0 here, from 1 in the rules.
+#![tactic(auto)]
+
 ghost use Rattle.std.specs.Prelude.{◌≡◌, take};
 ghost use Rattle.joint.specs.Places.{eight_places};
 ghost use Rattle.sharing.specs.Groups.{listed};
@@ -13,7 +15,7 @@ use arithmetic::least;
 // No limit above this is taken: refusal 8.
 const MOST: u64 = 4_000_000_000;
 
-#[derive(Drop)]
+#[derive(Clone, Copy)]
 pub struct Allocation {
     // the refusal's number, 0 when nothing is refused
     pub refusal: u32,

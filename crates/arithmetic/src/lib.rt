@@ -1,4 +1,6 @@
 // Arithmetic that several crates share. Most of it is definitions and laws: see specs/ and proofs/.
+#![tactic(auto)]
+
 ghost use Rattle.std.specs.Prelude.{◌≡◌, cond, min};
 
 // One of two numbers, by a test.

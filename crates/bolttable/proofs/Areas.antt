@@ -43,9 +43,9 @@ module _ (table : BoltTable) (e : table_check table ≡ Taken) where
       (and_yes (within size_counts table.count) (each_size size_in_range (counted_sizes table))
       (all_hold Taken Refused apart (table_refusals table) e 0)).1
 
-  pub diameters_rise : T (diameters_rise (counted_sizes table))
+  pub sizes_rise : T (diameters_rise (counted_sizes table))
   unfolding table_check table_refusals
-  diameters_rise = all_hold Taken Refused apart (table_refusals table) e 1
+  sizes_rise = all_hold Taken Refused apart (table_refusals table) e 1
 
   pub areas_fit : T (each_size area_fits (counted_sizes table))
   unfolding table_check table_refusals

@@ -22,7 +22,7 @@ use Rattle.bolttable.specs.declared.BoltArea.{BoltArea}
 use Rattle.bolttable.specs.declared.BoltArea.TheVariants.{Listed, Unlisted}
 use Rattle.bolttable.specs.declared.TableCheck.{TableCheck}
 use Rattle.bolttable.specs.declared.TableCheck.TheVariants.{Taken, Refused}
-use Rattle.bolttable.proofs.Areas.{size_ranges, if_refused, if_taken, sizes_in_range, areas_fit, diameters_rise}
+use Rattle.bolttable.proofs.Areas.{size_ranges, if_refused, if_taken, sizes_in_range, areas_fit, sizes_rise}
 use Rattle.bolttable.proofs.Checks.{from_first}
 use Rattle.bolttable.proofs.Sizes.{size_at, sizes_from, sizes_end}
 
@@ -185,7 +185,7 @@ module _ (table : BoltTable) (counted : within size_counts table.count ≡ true)
       chained below_least (counted_sizes table)
       (record {
         ranges = ranges;
-        rises = rw (from_first (counted_sizes table) ranges) (diameters_rise table e);
+        rises = rw (from_first (counted_sizes table) ranges) (sizes_rise table e);
         areas = areas_fit table e;
       })
 

@@ -1,5 +1,7 @@
 // A table of bolt sizes: it is loaded and checked, and stands in for the five built in. What Work has of it is the area of one
 // diameter: everything after that goes by figures.
+#![tactic(auto)]
+
 ghost use Rattle.std.specs.Prelude.{◌≡◌, ◌≤◌, length};
 ghost use Rattle.arithmetic.specs.Range.{within};
 ghost use Rattle.bolttable.specs.Loading.{size_counts, sizes_in, size_in_range, table_check, loaded, built_in};
@@ -15,7 +17,7 @@ pub const PLACES: usize = 12;
 const BELOW_LEAST: u32 = 5;
 
 // A table of bolt sizes. Only the first `count` places are looked at.
-#[derive(Drop)]
+#[derive(Clone, Copy)]
 pub struct BoltTable {
     // sizes; of a table that is taken 1 to 12
     pub count: u32,
@@ -26,14 +28,14 @@ pub struct BoltTable {
 }
 
 // Whether a table is taken, or the number that it is refused by: 16, 17 or 18.
-#[derive(Drop)]
+#[derive(Clone, Copy)]
 pub enum TableCheck {
     Taken,
     Refused(u32),
 }
 
 // What loading a table answers.
-#[derive(Drop)]
+#[derive(Clone, Copy)]
 pub struct Loading {
     // the refusal's number, 0 when the table is taken
     pub refusal: u32,
@@ -42,7 +44,7 @@ pub struct Loading {
 }
 
 // What a table lists for a diameter: the area of that size, in tenths of mm², or that it has no such size.
-#[derive(Drop)]
+#[derive(Clone, Copy)]
 pub enum BoltArea {
     Listed(u32),
     Unlisted,

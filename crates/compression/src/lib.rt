@@ -1,4 +1,6 @@
 // The compression side of a joint: its four resistances in newtons.
+#![tactic(auto)]
+
 ghost use Rattle.std.specs.Prelude.{◌≡◌, ◌<◌, ◌^◌};
 ghost use Rattle.arithmetic.specs.Range.{Within};
 ghost use Rattle.joint.specs.InRange.{ColumnInRange, BeamInRange};
@@ -14,7 +16,7 @@ use root::Root;
 use strength::SteelStrengths;
 
 // The four resistances of the compression side, in newtons.
-#[derive(Drop)]
+#[derive(Clone, Copy)]
 pub struct Resistances {
     // beam flange
     pub flange: u64,

@@ -3,7 +3,7 @@ ghost use Rattle.std.specs.Prelude.{◌≡◌};
 ghost use Rattle.compression.specs.Root.{root_case, Guess};
 
 // The root of 0 is a case of its own.
-#[derive(Drop)]
+#[derive(Clone, Copy)]
 pub enum Root {
     Zero,
     Positive(u64),

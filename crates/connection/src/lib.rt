@@ -1,5 +1,7 @@
 // One face of the column worked whole (rules 11): the refusals in their order, then limits, compression, cap, row forces and
 // verdicts. Rows count from 0.
+#![tactic(auto)]
+
 ghost use Rattle.std.specs.Prelude.{◌≡◌, Bool, ℕ, ◌≤◌, length, get_or, take};
 ghost use Rattle.arithmetic.specs.Checks.{first_failing, checks_before, checks_from};
 ghost use Rattle.bolttable.specs.InRange.{AreaInRange};
@@ -26,14 +28,14 @@ use strength::{BoltStrengths, SteelStrengths};
 use verdicts::Tally;
 
 // What is measured of a face before it is admitted: distances about its bolts, and steel strengths.
-#[derive(Drop)]
+#[derive(Clone, Copy)]
 pub struct Measures {
     pub spacing: Spacing,
     pub steel: SteelStrengths,
 }
 
 // Whether a face passes the refusals tried after 10 and before 15, or the number of the first that it doesn't.
-#[derive(Drop)]
+#[derive(Clone, Copy)]
 pub enum Admission {
     Admitted,
     Refused(u32),

@@ -7,6 +7,8 @@
 // that has two, times 65536. 0 is no refusal; 100 says that a lent slice is too short to hold a joint, a table, a result or eight forces,
 // and 101, of the sheet alone, that the output has no room for all lines. Whatever the answer is but 0, every slice and place is as it was.
 // The sheet's refusals are its lines: they are printed, `R 4` too, and answered 0.
+#![tactic(auto)]
+
 ghost use Rattle.std.specs.Prelude.{◌≡◌, false, get_or, take};
 ghost use Rattle.jointfile.specs.File.{reading};
 ghost use Rattle.sharing.specs.Groups.{listed};

@@ -1,4 +1,6 @@
 // Which of the four compression resistances governs, and the tension cap that it leaves (rules 5.6, 5.7, 5.10 and 11.7).
+#![tactic(auto)]
+
 ghost use Rattle.std.specs.Prelude.{◌≡◌, ◌≤◌};
 ghost use Rattle.joint.specs.InRange.{LoadsInRange};
 ghost use Rattle.compression.specs.InRange.{most_bearing};
@@ -9,7 +11,7 @@ use compression::Resistances;
 use joint::{AxialForce, Loads};
 
 // A compression check with its force in newtons.
-#[derive(Drop)]
+#[derive(Clone, Copy)]
 pub enum CompressionCheck {
     Flange(u64),
     Bearing(u64),
@@ -53,7 +55,7 @@ fn lesser_of(first: CompressionCheck, second: CompressionCheck) -> CompressionCh
 }
 
 // The tension cap in newtons, or that N is above the governing force.
-#[derive(Drop)]
+#[derive(Clone, Copy)]
 pub enum Cap {
     Newtons(u64),
     Exceeded,

@@ -1,5 +1,7 @@
 // Items of a line, each with the space before it: numbers in base ten and letters, measured, and put into a lent buffer. What is open
 // here is so for the crate of lines, which shows that there is room for what it puts.
+#![tactic(auto)]
+
 pub mod number;
 
 ghost use Rattle.std.specs.Prelude.{◌≡◌, map, ◌+◌, ◌≤◌, length};

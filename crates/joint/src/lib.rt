@@ -1,5 +1,7 @@
 // A joint: a beam on a column flange through an end plate, or one on each of the column's two faces. Both share the column and the bolts;
 // what each has of its own is its face. Each comment gives the field's number (rule 2.1) and unit; lengths are in tenths of a millimetre.
+#![tactic(auto)]
+
 ghost use Rattle.std.specs.Prelude.{◌≡◌};
 ghost use Rattle.arithmetic.specs.Range.{within, ◌to◌};
 ghost use Rattle.arithmetic.specs.Table.{one_of};
@@ -14,7 +16,7 @@ use arithmetic::chosen;
 use bolttable::BoltArea;
 
 // Fields 5, 8 to 13 and 30.
-#[derive(Drop)]
+#[derive(Clone, Copy)]
 pub struct Column {
     // 5: steel grade, 275 or 355
     pub grade: u32,
@@ -35,7 +37,7 @@ pub struct Column {
 }
 
 // Fields 3 and 4.
-#[derive(Drop)]
+#[derive(Clone, Copy)]
 pub struct Bolts {
     // 3: class, 46, 88 or 109
     pub class: u32,
@@ -44,7 +46,7 @@ pub struct Bolts {
 }
 
 // Fields 6 and 14 to 17.
-#[derive(Drop)]
+#[derive(Clone, Copy)]
 pub struct Beam {
     // 6: steel grade, 275 or 355
     pub grade: u32,
@@ -59,7 +61,7 @@ pub struct Beam {
 }
 
 // Fields 7, 18 and 19.
-#[derive(Drop)]
+#[derive(Clone, Copy)]
 pub struct Plate {
     // 7: steel grade, 275 or 355
     pub grade: u32,
@@ -70,7 +72,7 @@ pub struct Plate {
 }
 
 // How the bolts stand on the plate: fields 20 to 22.
-#[derive(Drop)]
+#[derive(Clone, Copy)]
 pub struct Layout {
     // 20: gauge g, between the two bolts of a row
     pub gauge: u32,
@@ -81,7 +83,7 @@ pub struct Layout {
 }
 
 // Fields 23 to 25.
-#[derive(Drop)]
+#[derive(Clone, Copy)]
 pub struct Welds {
     // 23: leg of the flange weld, sf
     pub flange: u32,
@@ -92,7 +94,7 @@ pub struct Welds {
 }
 
 // Fields 27 to 29.
-#[derive(Drop)]
+#[derive(Clone, Copy)]
 pub struct Loads {
     // 27: axial force N, newtons, compression positive
     pub axial: i32,
@@ -103,7 +105,7 @@ pub struct Loads {
 }
 
 // One face of the column, with the beam on it.
-#[derive(Drop)]
+#[derive(Clone, Copy)]
 pub struct Face {
     // 1: count of bolt rows n, 1 to 8; a joint's first face has it as stored, raised by 16 where a second face follows
     pub rows: u32,
@@ -120,7 +122,7 @@ pub struct Face {
     pub levers: [u32; 8],
 }
 
-#[derive(Drop)]
+#[derive(Clone, Copy)]
 pub struct Joint {
     pub column: Column,
     pub bolts: Bolts,
@@ -157,7 +159,7 @@ pub fn first_face(face: Face) -> Face
 }
 
 // The axial force N by its sign, with its size in newtons.
-#[derive(Drop)]
+#[derive(Clone, Copy)]
 pub enum AxialForce {
     Compression(u32),
     Tension(u32),
@@ -175,7 +177,7 @@ pub fn axial_force(axial: i32) -> AxialForce
 }
 
 // What checking a joint's fields finds: refusal 10 is `Outside`, with the first such field's number.
-#[derive(Drop)]
+#[derive(Clone, Copy)]
 pub enum FieldCheck {
     AllInRange,
     Outside(u32),

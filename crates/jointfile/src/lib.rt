@@ -3,6 +3,8 @@
 // front to back. Two things are done twice, for a reason. `write` measures the numbers before it puts them where the buffer may be too
 // short for them, since such a buffer stays untouched. And `rest` reads the joint again; a caller that has `read`'s answer need not ask
 // it, since the bytes from the answer's next place on are what is left.
+#![tactic(auto)]
+
 ghost use Rattle.std.specs.Prelude.{◌+◌, ◌≤◌, ◌≡◌, true, leb, length, drop, replicate};
 ghost use Rattle.joint.specs.Faces.{two_faced};
 ghost use Rattle.buffers.specs.Put.{Put};
@@ -21,7 +23,7 @@ use numbers::number::{Number, number_at, refusal_of};
 use numbers::run::{Run, all_zero, numbers_at, put_numbers, run_refusal, stored_size};
 
 // The kinds of joint file. The old one has no z, field 30.
-#[derive(Drop)]
+#[derive(Clone, Copy)]
 pub enum FileKind {
     Old,
     New,
@@ -41,7 +43,7 @@ fn stored_field_count(kind: FileKind) -> usize
 const UNTOLD_END_DISTANCE: u32 = 15000;
 
 // What `read` answers.
-#[derive(Drop)]
+#[derive(Clone, Copy)]
 pub struct Reading {
     // the refusal's number, or 0
     pub refusal: u32,
@@ -154,7 +156,7 @@ pub fn rest(bytes: &[u8], kind: FileKind) -> &[u8]
 }
 
 // What `write` answers: the file's length, or the refusal's number.
-#[derive(Drop)]
+#[derive(Clone, Copy)]
 pub enum Written {
     Length(usize),
     Refused(u32),

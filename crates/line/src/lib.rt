@@ -1,6 +1,8 @@
 // Lines of the sheet (rules 12.2 to 12.4 and 12.6): what working a joint came to, and what a joint that can't be read was refused for,
 // each measured, and put into a lent buffer. What is open here is so for the crate of the sheet, which shows that there is room for
 // what it puts.
+#![tactic(auto)]
+
 ghost use Rattle.std.specs.Prelude.{◌+◌, ◌≤◌, min, ◌≡◌, cond, [], ◌∷◌, ◌++◌, map, eqb, length, take};
 ghost use Rattle.buffers.specs.Put.{Put};
 ghost use Rattle.items.specs.Digits.{decimal};
@@ -67,7 +69,7 @@ pub fn put_read_refusal(buffer: &mut [u8], at: usize, number: u64, refusal: u32)
 // ---- refusals
 
 // The numbers that a refusal shows stand at the front of three places.
-#[derive(Drop)]
+#[derive(Clone, Copy)]
 struct Shown {
     numbers: [u64; 3],
     count: usize,

@@ -5,7 +5,7 @@ ghost use Rattle.numbers.specs.Number.{stored};
 ghost use Rattle.numbers.specs.Answers.{NumberRead, refusal_number};
 
 // What reading a number answers: its value with the place after its last byte, or the refusal's number.
-#[derive(Drop)]
+#[derive(Clone, Copy)]
 pub enum Number {
     Value { value: u32, next: usize },
     Refused(u32),

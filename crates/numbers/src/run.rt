@@ -7,7 +7,7 @@ ghost use Rattle.numbers.specs.Answers.{RunRead, run_refusal};
 use crate::number::{Number, number_at, put_number, refusal_of, stored_length};
 
 // What reading a run answers: the place after its last number, or the refusal of the first that can't be read.
-#[derive(Drop)]
+#[derive(Clone, Copy)]
 pub enum Run {
     Next(usize),
     Refused(u32),

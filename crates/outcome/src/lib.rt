@@ -1,8 +1,10 @@
 // What working a joint comes to: between Work, which makes it, and the sheet, which prints it.
+#![tactic(auto)]
+
 use governing::CompressionCheck;
 
 // Whether a face passes each check.
-#[derive(Drop)]
+#[derive(Clone, Copy)]
 pub struct Verdicts {
     pub bending: bool,
     pub bolts: bool,
@@ -11,7 +13,7 @@ pub struct Verdicts {
 }
 
 // What a joint was refused for.
-#[derive(Drop)]
+#[derive(Clone, Copy)]
 pub struct Refusal {
     // the refusal's number, 0 when nothing is refused
     pub number: u32,
@@ -22,7 +24,7 @@ pub struct Refusal {
 }
 
 // What one face of the column comes to. In a refusal the figures are 0, the check is Flange with 0, and the verdicts are no.
-#[derive(Drop)]
+#[derive(Clone, Copy)]
 pub struct FaceResult {
     // newtons, row 1 first; 0 past the last row
     pub forces: [u64; 8],
@@ -37,7 +39,7 @@ pub struct FaceResult {
 }
 
 // What one face comes to where it is worked alone.
-#[derive(Drop)]
+#[derive(Clone, Copy)]
 pub struct FaceOutcome {
     // the refusal's number, 0 when nothing is refused
     pub number: u32,
@@ -47,7 +49,7 @@ pub struct FaceOutcome {
 }
 
 // Whether the web panel of a column with a beam on both faces carries what they bring to it.
-#[derive(Drop)]
+#[derive(Clone, Copy)]
 pub enum PanelVerdict {
     // there is one face, and panel shear is in its cap; or the joint is refused
     NotAsked,
@@ -56,7 +58,7 @@ pub enum PanelVerdict {
 }
 
 // What Work answers.
-#[derive(Drop)]
+#[derive(Clone, Copy)]
 pub struct Outcome {
     pub refusal: Refusal,
     // of the first face

@@ -1,4 +1,6 @@
 // The verdict on the web panel of a column with a beam on both faces (rule 8.6).
+#![tactic(auto)]
+
 ghost use Rattle.std.specs.Prelude.{◌≡◌, ◌<◌, ◌^◌};
 ghost use Rattle.joint.specs.InRange.{LoadsInRange};
 ghost use Rattle.panel.specs.Panel.{governing_total, panel_passes};

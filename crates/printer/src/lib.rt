@@ -1,6 +1,8 @@
 // The sheet (rules 12): joint files end to end in, a line out for each face, or one for a refusal. Each joint is read once, worked once and
 // put straight into the caller's buffer; the input is walked by the place after each joint. Only where the output may be too short are the
 // lines measured first, since such an output stays as it was.
+#![tactic(auto)]
+
 ghost use Rattle.std.specs.Prelude.{◌+◌, ◌≤◌, ◌≡◌, [], ◌∷◌, leb, length};
 ghost use Rattle.buffers.specs.Put.{Put};
 ghost use Rattle.line.specs.Line.{concatenated};
@@ -25,7 +27,7 @@ const LEAST_PER_LINE: usize = LEAST_TWO_FACED / 2;
 pub const MOST_SHEET: usize = (MOST_INPUT + (LEAST_PER_LINE - 1)) / LEAST_PER_LINE * MOST_LINE;
 
 // What printing answers: the count of bytes at the buffer's front, or that there is no room for all lines.
-#[derive(Drop)]
+#[derive(Clone, Copy)]
 pub enum Printed {
     Length(usize),
     NoRoom,

@@ -1,5 +1,7 @@
 // What Work's refusals 11, 19, 12 and 13 ask of a face: levers that fall and rows far enough apart, both by the least pitch; rows in
 // place; and bolts far enough from web, weld and edge. Rows count from 0. Work calls these for faces whose fields are in range.
+#![tactic(auto)]
+
 ghost use Rattle.std.specs.Prelude.{◌≡◌, ℕ, ◌-◌, ◌≤◌, leb, length, get_or, take};
 ghost use Rattle.arithmetic.specs.Range.{Within, ◌to◌};
 ghost use Rattle.arithmetic.specs.Table.{every};

@@ -1,6 +1,8 @@
 // The program `sheet`: joint files end to end on standard input, a line for each face, or one for a refusal, on standard output. A sheet
 // that was half read or half written must never look whole: an input that can't be read to its end prints no line, and either failure is
 // said on standard error.
+#![tactic(auto)]
+
 ghost use Rattle.std.specs.Prelude.{◌+◌, ◌≤◌, ◌≡◌, length};
 ghost use Rattle.printer.specs.Sheet.{most_input};
 ghost use Rattle.printer.specs.Answers.{most_sheet};

@@ -1,11 +1,13 @@
 // Distances about the bolts, in hundredths of a millimetre (rule 4.1).
+#![tactic(auto)]
+
 ghost use Rattle.std.specs.Prelude.{◌≡◌, ◌+◌, ◌-◌, ◌*◌};
 ghost use Rattle.spacing.specs.Spacing.{spacing_of};
 
 use joint::{Column, Face};
 
 // A difference below 0 is 0 here: refusal 13 turns a joint down for either.
-#[derive(Drop)]
+#[derive(Clone, Copy)]
 pub struct Spacing {
     // column m
     pub column: u64,

@@ -1,5 +1,7 @@
 // Strengths of BS 5950-1:2000 in newtons per square millimetre: steel, bolts and welds. What is in none of the tables of rules 3 has
 // strength 0; of welds any two grades have one, 220 if either is 275, else 250.
+#![tactic(auto)]
+
 ghost use Rattle.std.specs.Prelude.{◌≡◌, [], ◌∷◌, ◌≤◌};
 ghost use Rattle.arithmetic.specs.Range.{Within};
 ghost use Rattle.arithmetic.specs.Table.{up_to};
@@ -12,7 +14,7 @@ ghost use Rattle.strength.specs.InRange.{yield_strengths, ultimate_strengths, mo
 use joint::{Beam, Bolts, Column, Plate};
 
 // yc, yb and yp.
-#[derive(Drop)]
+#[derive(Clone, Copy)]
 pub struct SteelStrengths {
     pub column: u64,
     pub beam: u64,
@@ -20,7 +22,7 @@ pub struct SteelStrengths {
 }
 
 // What a bolt class gives: pt, ps, bearing and U.
-#[derive(Drop)]
+#[derive(Clone, Copy)]
 pub struct ClassStrengths {
     pub tension: u64,
     pub shear: u64,
@@ -29,7 +31,7 @@ pub struct ClassStrengths {
 }
 
 // All that limits and verdicts need of a joint's bolts.
-#[derive(Drop)]
+#[derive(Clone, Copy)]
 pub struct BoltStrengths {
     // δ, in millimetres
     pub diameter: u64,

@@ -1,5 +1,7 @@
 // Bending of T-stubs and tension in webs (rules 4.2 to 4.5, 4.7, 4.9 and 4.10), from figures that are the same for every group. Lengths are
 // in hundredths of a millimetre. The crate `tension` calls these for figures that it shows to be small enough.
+#![tactic(auto)]
+
 ghost use Rattle.std.specs.Prelude.{◌≡◌, ◌*◌, ◌/◌, min};
 ghost use Rattle.arithmetic.specs.Range.{Within};
 ghost use Rattle.stubs.specs.Bending.{extension_length};
@@ -10,7 +12,7 @@ ghost use Rattle.stubs.specs.InRange.{StubParts, PatternParts, BendingParts, Ext
 use arithmetic::least;
 
 // The column flange or the end plate as a T-stub: what of its bending is the same for every group.
-#[derive(Drop)]
+#[derive(Clone, Copy)]
 pub struct Stub {
     // t²y
     pub flexure: u64,
@@ -23,7 +25,7 @@ pub struct Stub {
 }
 
 // The yield-line lengths of one row.
-#[derive(Drop)]
+#[derive(Clone, Copy)]
 pub struct Lengths {
     // 6283m÷1000
     pub circular: u64,

@@ -1,5 +1,7 @@
 // The tension side: the limit of every group of bolt rows (rules 4). Rows count from 0.
 // Lengths are in hundredths of a millimetre. Work calls these for joints that refusals 10, 11 and 13 let pass.
+#![tactic(auto)]
+
 ghost use Rattle.std.specs.Prelude.{◌≡◌, ◌*◌, ◌≤◌, cond, eqb};
 ghost use Rattle.arithmetic.specs.Range.{Within};
 ghost use Rattle.joint.specs.Ranges.{gauges};
@@ -18,7 +20,7 @@ use stubs::{
 };
 
 // What is the same for all groups of a face.
-#[derive(Drop)]
+#[derive(Clone, Copy)]
 pub struct Dimensions {
     pub column: Stub,
     pub plate: Stub,

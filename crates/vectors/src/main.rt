@@ -1,6 +1,8 @@
 // The program `vectors`: runs the open calls on stored vectors, a line of text each (docs/vectors.md), and compares what they answer with
 // what the line says. Prints how many ran and how many came out as expected under each heading, and each that didn't by its line. An input
 // or an output that fails is said on standard error.
+#![tactic(auto)]
+
 ghost use Rattle.std.specs.Prelude.{◌≡◌, length};
 
 use compare::Comparison;

@@ -2,7 +2,7 @@
 use crate::compare::Comparison;
 use libc::STDOUT_FILENO;
 
-#[derive(Drop)]
+#[derive(Clone, Copy)]
 pub struct Progress {
     // vectors under the last heading, and those of them that came out as expected
     ran: u64,

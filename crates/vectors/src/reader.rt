@@ -3,7 +3,7 @@
 ghost use Rattle.std.specs.Prelude.{◌≤◌, length};
 
 // The place after what was read, or that it can't be read.
-#[derive(Drop)]
+#[derive(Clone, Copy)]
 pub enum Place {
     At(usize),
     Bad,
@@ -57,14 +57,14 @@ pub fn is_end(line: &[u8], place: Place) -> bool {
 // ---- numbers
 
 // A number with the place after it, or that none stands there.
-#[derive(Drop)]
+#[derive(Clone, Copy)]
 pub enum Number {
     Value { value: u64, next: usize },
     Missing,
 }
 
 // A number with one digit more; or that the byte is no digit, or the number more than 64 bits hold.
-#[derive(Drop)]
+#[derive(Clone, Copy)]
 enum Longer {
     Value(u64),
     NoDigit,
@@ -126,7 +126,7 @@ pub fn number_at(line: &[u8], place: Place) -> Number {
 }
 
 // How many numbers there were, with the place after them.
-#[derive(Drop)]
+#[derive(Clone, Copy)]
 pub struct Numbers {
     pub count: usize,
     pub next: usize,
@@ -223,7 +223,7 @@ pub fn put_numbers(words: &[u32], numbers: &mut [u64]) {
 // ---- bytes
 
 // How many bytes there were, with the place after them, or that they can't be read.
-#[derive(Drop)]
+#[derive(Clone, Copy)]
 pub enum Bytes {
     Read { count: usize, next: usize },
     Bad,

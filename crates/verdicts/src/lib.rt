@@ -1,5 +1,7 @@
 // Verdicts on a joint's row forces: bending, bolts, flange weld and web weld (rules 8).
 // Work calls these for joints whose fields are in range.
+#![tactic(auto)]
+
 ghost use Rattle.std.specs.Prelude.{◌≡◌, ℕ, ◌+◌, ◌*◌, ◌/◌, ◌≤◌, min, cond, eqb, leb, get_or, take};
 ghost use Rattle.arithmetic.specs.Range.{Within};
 ghost use Rattle.joint.specs.InRange.{BeamInRange, FaceInRange};
@@ -18,7 +20,7 @@ use joint::{AxialForce, Beam, Column, Face, Loads, Plate};
 use strength::BoltStrengths;
 
 // What row forces come to.
-#[derive(Drop)]
+#[derive(Clone, Copy)]
 pub struct Tally {
     // newtons
     pub sum: u64,

@@ -93,7 +93,7 @@ pub fn joint_of(words: &[u32]) -> Joint
 }
 
 // A joint without its second face.
-#[derive(Drop)]
+#[derive(Clone, Copy)]
 pub struct OneFaced {
     pub column: Column,
     pub bolts: Bolts,

@@ -1,5 +1,7 @@
 // Work: one joint worked whole (rules 11), with a beam on one face of the column or on both. Each face is a connection worked on the
 // shared column and bolts, whose area comes from the bolt table in force; of two, the panel between them is judged.
+#![tactic(auto)]
+
 ghost use Rattle.std.specs.Prelude.{◌≡◌};
 ghost use Rattle.bolttable.specs.InRange.{AreaInRange};
 ghost use Rattle.joint.specs.InRange.{ColumnInRange};
