@@ -19,7 +19,7 @@ pub overflow_add-buffer : goal.overflow_add-buffer
 overflow_add-buffer c =
     let next : (c.loop-i.at + 2 ≤ length c.loop-i.buffer) × (length c.loop-i.buffer < 2 ^ 64) = (
       omega (arith, items_room letter _ _ c.loop-i-test.true c.loop-i.invariant c.requires),
-      omega (arith, put_length c.loop-i.invariant, c.well-formed.0.0),
+      omega (arith, put_length c.loop-i.invariant, c.well_formed.0.0),
     ) in
     omega (arith, next)
 
@@ -27,7 +27,7 @@ pub bounds-buffer-at-in-loop-i : goal.bounds-buffer-at-in-loop-i
 bounds-buffer-at-in-loop-i c =
     let next : (c.loop-i.at + 2 ≤ length c.loop-i.buffer) × (length c.loop-i.buffer < 2 ^ 64) = (
       omega (arith, items_room letter _ _ c.loop-i-test.true c.loop-i.invariant c.requires),
-      omega (arith, put_length c.loop-i.invariant, c.well-formed.0.0),
+      omega (arith, put_length c.loop-i.invariant, c.well_formed.0.0),
     ) in
     simp length-set (omega (arith, next))
 
@@ -35,7 +35,7 @@ pub overflow_add-at : goal.overflow_add-at
 overflow_add-at c =
     let next : (c.loop-i.at + 2 ≤ length c.loop-i.buffer) × (length c.loop-i.buffer < 2 ^ 64) = (
       omega (arith, items_room letter _ _ c.loop-i-test.true c.loop-i.invariant c.requires),
-      omega (arith, put_length c.loop-i.invariant, c.well-formed.0.0),
+      omega (arith, put_length c.loop-i.invariant, c.well_formed.0.0),
     ) in
     omega (arith, next)
 

@@ -22,7 +22,7 @@ overflow_add-at c =
       arith,
       items_room decimal _ _ c.loop-i-test.true c.loop-i.invariant c.requires,
       put_length c.loop-i.invariant,
-      c.well-formed,
+      c.well_formed,
     )
 
 pub put_number-at-requires : goal.put_number-at-requires

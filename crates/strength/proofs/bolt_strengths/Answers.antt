@@ -1,0 +1,28 @@
+-- `strength::bolt_strengths` meets its contract: the figures are the definition's, and an area of 32 bits and the greatest strengths bound
+-- the products.
+-- Assumes nothing.
+use mathlib.Core.Path.{◌≡◌}
+use native.Mathlib.Omega.{arith}
+use Rattle.arithmetic.specs.Range.{Within, ◌to◌}
+use Rattle.arithmetic.proofs.Bounds.{exactly, at_most, ◌⊗◌, fits}
+use Rattle.strength.specs.Bolt.{class_strengths, pair_tension, pair_shear}
+use Rattle.strength.proofs.Ranges.{tension_most, shear_most}
+use Rattle.strength.proofs.bolt_strengths.Goals as goal
+
+pub overflow_mul-result : goal.overflow_mul-result
+overflow_mul-result c =
+    let class-is : c.class_strengths-class.result ≡ class_strengths c.args.bolts.class = c.class_strengths-class.ensures in
+    let area_most : Within (0 to 4294967295) c.args.area = at_most (omega arith) in
+    rw class-is (fits (exactly 2 ⊗ area_most ⊗ tension_most _) tt)
+
+pub overflow_mul-result-2 : goal.overflow_mul-result-2
+overflow_mul-result-2 c =
+    let class-is : c.class_strengths-class.result ≡ class_strengths c.args.bolts.class = c.class_strengths-class.ensures in
+    let area_most : Within (0 to 4294967295) c.args.area = at_most (omega arith) in
+    rw class-is (fits (exactly 2 ⊗ area_most ⊗ shear_most _) tt)
+
+pub returns : goal.returns
+unfolding pair_tension pair_shear
+returns c =
+    let class-is : c.class_strengths-class.result ≡ class_strengths c.args.bolts.class = c.class_strengths-class.ensures in
+    rw class-is
