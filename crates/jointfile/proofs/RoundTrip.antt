@@ -50,11 +50,11 @@ module _ (joint : Joint) where
   module _ (kind : FileKind) where
     stored_first : field 1 (take (stored_field_count kind) (first_fields joint)) ≡ joint.face.rows
     unfolding fields_of
-    stored_first = elim kind [ Old ↦ refl | New ↦ refl ]
+    stored_first = elim kind as (λ k. field 1 (take (stored_field_count k) (first_fields joint)) ≡ joint.face.rows) [ Old ↦ refl | New ↦ refl ]
 
     stored_long : length (take (stored_field_count kind) (first_fields joint)) ≡ suc (other_field_count kind)
     unfolding fields_of
-    stored_long = elim kind [ Old ↦ refl | New ↦ refl ]
+    stored_long = elim kind as (λ k. length (take (stored_field_count k) (first_fields joint)) ≡ suc (other_field_count k)) [ Old ↦ refl | New ↦ refl ]
 
 -- the parts of a joint that the program can hold and `write` takes are right
 module _ (joint : Joint) (held : Held joint) (writable : Writable joint) where
@@ -251,7 +251,7 @@ module _ (kind : FileKind) (fields levers own others bytes bytes₁ left : List 
   joint-read = joint_of whole_fields levers own others
 
   in_file : length fields ≡ stored_field_count kind
-  in_file = first.long ∙ elim kind [ Old ↦ refl | New ↦ refl ]
+  in_file = first.long ∙ elim kind as (λ k. suc (other_field_count k) ≡ stored_field_count k) [ Old ↦ refl | New ↦ refl ]
 
   same_count : field 1 whole_fields ≡ field 1 fields
   same_count = field_1_of (other_field_count kind) fields (lacking kind) first.long

@@ -47,6 +47,7 @@ raised_alike a b k =
 
 -- the size of a difference, where the second is the larger, and where it isn't
 less_first : (a b : ℕ) → a < b → nat_abs (pos a -ℤ pos b) ≡ b - a
+less_first a zero h = absurd (omega arith)
 less_first a (suc b) h = rw (lt-ltb a (suc b) h) (omega arith)
 
 less_second : (a b : ℕ) → b ≤ a → nat_abs (pos a -ℤ pos b) ≡ a - b

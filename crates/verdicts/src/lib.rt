@@ -157,9 +157,9 @@ fn flange_capacity(strength: u64, beam: Beam) -> u64
 }
 
 // Web weld, from pw.
-pub fn web_weld(face: Face, weld_strength: u64) -> bool
-    requires { FaceInRange face × (weld_strength ≡ weld_strength face.beam.grade face.plate.grade) }
+pub fn web_weld(face: Face, strength: u64) -> bool
+    requires { FaceInRange face × (strength ≡ weld_strength face.beam.grade face.plate.grade) }
     ensures { result ≡ web_weld_passes face }
 {
-    (face.loads.shear as u64) <= weld_capacity(face.welds.web, face.welds.length, weld_strength)
+    (face.loads.shear as u64) <= weld_capacity(face.welds.web, face.welds.length, strength)
 }

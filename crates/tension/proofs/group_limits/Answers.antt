@@ -1,0 +1,31 @@
+-- `group_limits` meets its contract: the table agrees with the figures' limits, and those are the rules'. Assumes nothing.
+use mathlib.Core.Path.{ap, ◌∙◌}
+use Rattle.tension.specs.Dimensions.{limits_by}
+use Rattle.tension.proofs.Sizes.{levers_of, dimensions_within}
+use Rattle.tension.proofs.Worked.{limit_worked}
+use Rattle.tension.proofs.group_limits.Goals as goal
+
+pub fill_limits-requires : goal.fill_limits-requires
+fill_limits-requires c =
+    let a = c.args in
+    record {
+      dimensions =
+          rw c.dimensions_of-d.ensures
+          (dimensions_within a.column a.face c.requires.admissible a.pair c.requires.figures.pair);
+      levers = levers_of a.column a.face c.requires.admissible;
+      size = c.requires.size;
+    }
+
+pub returns : goal.returns
+returns c =
+    let a = c.args in
+    let filled = c.fill_limits.ensures in
+    record {
+      size = filled.size;
+      agrees = λ row last h inside.
+          filled.agrees row last h inside
+          ∙ ap (λ d. limits_by d a.face.levers row last) c.dimensions_of-d.ensures
+          ∙ limit_worked a.column a.face a.pair row last;
+      bounded = filled.bounded;
+      untouched = filled.untouched;
+    }
