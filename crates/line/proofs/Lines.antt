@@ -53,13 +53,15 @@ three_parts first a b c end = simp (spaced-append, append_assoc)
 -- the panel's stands last in its place, where it is shown
 pub letters_shown : (result : FaceResult) (panel : PanelVerdict)
     → take (letter_count panel) (letters_of result ++ (panel_letter panel ∷ [])) ≡ shown_letters result panel
-letters_shown result panel = elim panel [ NotAsked ↦ refl | Passes ↦ refl | Fails ↦ refl ]
+letters_shown result panel =
+    elim panel as (λ p. take (letter_count p) (letters_of result ++ (panel_letter p ∷ [])) ≡ shown_letters result p) [ NotAsked ↦ refl | Passes ↦ refl | Fails ↦ refl ]
 
 pub letters_few : (panel : PanelVerdict) → letter_count panel ≤ 6
-letters_few panel = elim panel [ NotAsked ↦ omega arith | Passes ↦ omega arith | Fails ↦ omega arith ]
+letters_few panel = elim panel as (λ p. letter_count p ≤ 6) [ NotAsked ↦ omega arith | Passes ↦ omega arith | Fails ↦ omega arith ]
 
 letters_count : (result : FaceResult) (panel : PanelVerdict) → length (shown_letters result panel) ≡ letter_count panel
-letters_count result panel = elim panel [ NotAsked ↦ refl | Passes ↦ refl | Fails ↦ refl ]
+letters_count result panel =
+    elim panel as (λ p. length (shown_letters result p) ≡ letter_count p) [ NotAsked ↦ refl | Passes ↦ refl | Fails ↦ refl ]
 
 -- ---- a face's line
 

@@ -27,8 +27,8 @@ module _ (face : ℕ) (next : FaceResult → Outcome) {answer outcome : FaceOutc
       → refused_outcome answer.number answer.field face ≡ if_taken face outcome next
   if_refused some = rw (sym e, ne_eqb answer.number 0 some)
 
-  if_taken : answer.number ≡ 0 → next answer.result ≡ if_taken face outcome next
-  if_taken none = rw (sym e, eq-eqb answer.number 0 none)
+  if_taken_lem : answer.number ≡ 0 → next answer.result ≡ if_taken face outcome next
+  if_taken_lem none = rw (sym e, eq-eqb answer.number 0 none)
 
 -- a refusal has its number
 pub refusal_is : (number field face : ℕ) (answer : Outcome) → answer ≡ refused_outcome number field face → answer.refusal.number ≡ 0
@@ -49,13 +49,13 @@ module _ (column : Column) (bolts : Bolts) (area : BoltArea) (first second : Fac
         → refused_outcome two.number two.field 2 ≡ worked_faces column bolts area first second
     unfolding worked_faces
     second_refused some =
-        if_refused 2 (both_taken column first second one.result) e' some ∙ if_taken 1 (worked_second column bolts area first second) e none
+        if_refused 2 (both_taken column first second one.result) e' some ∙ if_taken_lem 1 (worked_second column bolts area first second) e none
 
-    pub both_taken : two.number ≡ 0
+    pub both_taken_lem : two.number ≡ 0
         → both_taken column first second one.result two.result ≡ worked_faces column bolts area first second
     unfolding worked_faces
-    both_taken none' =
-        if_taken 2 (both_taken column first second one.result) e' none' ∙ if_taken 1 (worked_second column bolts area first second) e none
+    both_taken_lem none' =
+        if_taken_lem 2 (both_taken column first second one.result) e' none' ∙ if_taken_lem 1 (worked_second column bolts area first second) e none
 
 -- ---- one face alone
 
