@@ -1,0 +1,22 @@
+-- `has_room` meets its contract: there is room for the longest sheet of so many bytes, or the lines were measured. Assumes nothing.
+use Prim.Native.Nat.{ℕ}
+use mathlib.Core.Path.{sym, ap}
+use native.Mathlib.Omega.{arith}
+use borrow.Author.Tests.{le-leb}
+use lib.Dec.{leb}
+use lib.ListN.{length}
+use Rattle.line.specs.Line.{concatenated}
+use Rattle.printer.specs.Sheet.{lines_of}
+use Rattle.printer.proofs.Sizes.{lines_size}
+use Rattle.printer.proofs.has_room.Goals as goal
+
+pub returns-then-most_printed-room : goal.returns-then-most_printed-room
+returns-then-most_printed-room c =
+    let args = c.args in
+    let input = args.input.now in
+    sym
+    (le-leb (length (concatenated (lines_of 1 input))) args.room
+    (omega (arith, lines_size input (λ k. (c.shared_slice_known-1.given k).fits), c.most_printed.ensures, c.if-most_printed-room.true)))
+
+pub returns : goal.returns
+returns c = ap (λ (size : ℕ). leb size c.args.room) c.lines_size.ensures
