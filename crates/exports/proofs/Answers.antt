@@ -11,10 +11,10 @@ module _ {Lent : Type 0} {enough : Bool} (number field face : ℕ) (put entry : 
   unfolding answered
   too_short short = rw short
 
-  pub turned_down : enough ≡ true → (number ≡ 0 → ⊥) → {answer : ℕ} → answer ≡ answer_number number field face
+  pub refusal_told : enough ≡ true → (number ≡ 0 → ⊥) → {answer : ℕ} → answer ≡ answer_number number field face
       → answers answer entry ≡ answered enough number field face put entry
   unfolding answered
-  turned_down room refused is = rw (room, ne_eqb number 0 refused, is)
+  refusal_told room refused is = rw (room, ne_eqb number 0 refused, is)
 
   pub taken : enough ≡ true → number ≡ 0 → {lent : Lent} → lent ≡ put → answers 0 lent ≡ answered enough number field face put entry
   unfolding answered
@@ -24,4 +24,4 @@ module _ {Lent : Type 0} {enough : Bool} (number field face : ℕ) (put entry : 
 pub refused : {Lent : Type 0} {enough : Bool} (number : ℕ) (put entry : Lent) → enough ≡ true → {answer : ℕ} → answer ≡ number
     → (answer ≡ 0 → ⊥) → answers answer entry ≡ answered enough number 0 0 put entry
 refused number put entry room is some =
-    turned_down number 0 0 put entry room (λ none. some (is ∙ none)) (is ∙ sym (add-zero (number + 0) ∙ add-zero number))
+    refusal_told number 0 0 put entry room (λ none. some (is ∙ none)) (is ∙ sym (add-zero (number + 0) ∙ add-zero number))

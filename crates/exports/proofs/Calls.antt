@@ -57,7 +57,7 @@ use Rattle.words.specs.Results.{outcome_words}
 use Rattle.exports.specs.Answers.{answers, answer_number}
 use Rattle.exports.specs.Calls.{file_put, writing_into, Demand3OfFace, Demand3OfWords, EnoughWords, WorkedInto, sheet_answer}
 use Rattle.exports.specs.Calls.{sheeting_into}
-use Rattle.exports.proofs.Answers.{turned_down, taken, refused as answer-refused}
+use Rattle.exports.proofs.Answers.{refusal_told, taken, refused as answer-refused}
 
 -- ---- Rest
 
@@ -252,7 +252,7 @@ module _ (table fields words : List ℕ) (room : EnoughWords table fields words)
       → WorkedInto table fields words words answer
   work_refused some {answer} e =
       record {
-        equals = turned_down _ _ _ _ _ enough (λ none. some (ap (λ (o : Outcome). o.refusal.number) is ∙ none))
+        equals = refusal_told _ _ _ _ _ enough (λ none. some (ap (λ (o : Outcome). o.refusal.number) is ∙ none))
             (e ∙ ap (λ (o : Outcome). answer_number o.refusal.number o.refusal.field o.refusal.face) is);
         demand = λ none. absurd (some (omega (arith, e, none)));
       }

@@ -8,10 +8,6 @@ use Rattle.words.specs.Results.{outcome_word_count}
 use Rattle.exports.proofs.Answers.{too_short}
 use Rattle.exports.proofs.jinqewan_work.Goals as goal
 
-)
-
-)
-
 pub returns-then-table-lt-TABLE_WORDS : goal.returns-then-table-lt-TABLE_WORDS
 returns-then-table-lt-TABLE_WORDS c = record { equals = too_short _ _ _ _ _ (simp (lt-leb table_word_count _ c.if-table-lt-TABLE_WORDS.true)); demand = λ none. absurd (omega (arith, none)) }
 
