@@ -8,8 +8,7 @@ ghost use Rattle.printer.specs.Sheet.{most_input};
 ghost use Rattle.printer.specs.Answers.{most_sheet};
 ghost use Rattle.sheet.specs.Whole.{Whole};
 
-use input::was_read_whole;
-use libc::{STDERR_FILENO, STDIN_FILENO, STDOUT_FILENO};
+use input::{STDERR_FILENO, STDIN_FILENO, STDOUT_FILENO, was_read_whole};
 use printer::{MOST_INPUT, MOST_SHEET, Printed};
 
 // One byte more than a sheet takes, so that an input that is too long is seen to be.
@@ -41,10 +40,11 @@ fn print_sheet(input: &[u8], output: &mut [u8]) -> usize
     }
 }
 
-fn main() {
+fn main(rt: HostRuntime) {
     let mut input = input_space();
     let got = io::read_full(STDIN_FILENO, &mut input);
-    if !was_read_whole(got, INPUT_SPACE) {
+    let mut stdin = rt.stdin();
+    if !was_read_whole(&mut stdin, got, INPUT_SPACE) {
         io::write_all(
             STDERR_FILENO,
             b"sheet: the input could not be read to its end; nothing is printed\n",

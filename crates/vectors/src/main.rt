@@ -6,9 +6,8 @@
 ghost use Rattle.std.specs.Prelude.{◌≡◌, length};
 
 use compare::Comparison;
-use input::was_read_whole;
+use input::{STDERR_FILENO, STDIN_FILENO, was_read_whole};
 use jointfile::FileKind;
-use libc::{STDERR_FILENO, STDIN_FILENO};
 use progress::{Progress, at_next_line, finish, start, with_comparison, with_heading};
 use reader::{Place, after_word, line_end};
 
@@ -86,10 +85,11 @@ fn run_all(text: &[u8]) -> Progress {
     progress
 }
 
-fn main() {
+fn main(rt: HostRuntime) {
     let mut text = input_space();
     let size = io::read_full(STDIN_FILENO, &mut text);
-    if !was_read_whole(size, INPUT_SPACE) {
+    let mut stdin = rt.stdin();
+    if !was_read_whole(&mut stdin, size, INPUT_SPACE) {
         io::write_all(
             STDERR_FILENO,
             b"vectors: the input could not be read to its end; nothing is run\n",

@@ -1,6 +1,6 @@
 // How far the program is, and what it prints on the way.
 use crate::compare::Comparison;
-use libc::STDOUT_FILENO;
+use input::STDOUT_FILENO;
 
 #[derive(Clone, Copy)]
 pub struct Progress {

@@ -2,11 +2,7 @@
 use Prim.Native.Nat.{ℕ}
 use mathlib.Core.Path.{sym}
 use lib.ListN.{length-replicate}
-use Rattle.sheet.proofs.output_space.Statement.{statement}
-use Rattle.sheet.proofs.output_space.Tie as tie
+use Rattle.sheet.proofs.output_space.Goals as goal
 
-returns : tie.Need-returns
+pub returns : goal.returns
 returns c = sym (length-replicate {A = ℕ} _ 0)
-
-pub output-space-spec : {M : Type 1} → statement M
-output-space-spec = tie.close (tie.spec returns)

@@ -1,0 +1,7 @@
+-- `vectors::reader::put_numbers` is safe and ends: the measure is the count of words left. Assumes nothing.
+use Prim.Native.Nat.{◌-◌}
+use native.Mathlib.Omega.{arith}
+use Rattle.vectors.proofs.reader.put_numbers.Goals as goal
+
+pub overflow_cast-numbers : goal.overflow_cast-numbers
+overflow_cast-numbers c = omega (arith, c.shared_slice_known-1.given c.loop-i.i)
