@@ -10,7 +10,9 @@ use std::io::Read;
 
 // The numbers by which `io` knows the three streams of a program.
 pub const STDIN_FILENO: i32 = 0;
+
 pub const STDOUT_FILENO: i32 = 1;
+
 pub const STDERR_FILENO: i32 = 2;
 
 // Whether a read's answer says that the input has ended.

@@ -1,6 +1,6 @@
 -- What each turn of a loop keeps, and why the loop or the recursion ends.
 use mathlib.Core.Path.{◌≡◌}
-use Prim.Native.Nat.{suc, ◌-◌, ◌≤◌, ◌<◌}
+use Prim.Native.Nat.{suc, ◌≤◌, ◌<◌}
 use Rattle.sharing.specs.Groups.{listed}
 use Rattle.sharing.specs.Sharing.{lowered as lowered_limit}
 use Rattle.allocation.specs.Steps.{Counted}

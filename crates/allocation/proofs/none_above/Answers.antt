@@ -1,7 +1,6 @@
 -- `none_above` meets its contract. The invariant: the limits left decide what all of them do. The measure is how many are left.
 -- Assumes nothing.
 use mathlib.Core.Path.{refl, sym, ◌∙◌}
-use Prim.Native.Nat.{◌-◌}
 use native.Mathlib.Omega.{arith}
 use Rattle.allocation.proofs.Bound.{within, beyond, all_passed}
 use Rattle.allocation.proofs.none_above.Goals as goal

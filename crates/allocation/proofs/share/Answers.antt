@@ -1,6 +1,5 @@
 -- `share` meets its contract: each turn gives one row its force (the law `turn`). The measure is how many rows are left.
 -- Assumes nothing.
-use Prim.Native.Nat.{◌-◌}
 use native.Mathlib.Omega.{arith}
 use Rattle.sharing.proofs.Places.{groups_inside}
 use Rattle.allocation.proofs.Rows.{sum_le_most, start, down_grows, turn, finish}

@@ -1,7 +1,7 @@
 -- `area_among` meets its contract. The invariant: the sizes left, with what was found before them, come to what all of them do.
 -- Assumes nothing.
 use mathlib.Core.Path.{sym, ap, ◌∙◌}
-use Prim.Native.Nat.{ℕ, ◌+◌, ◌-◌}
+use Prim.Native.Nat.{ℕ, ◌+◌}
 use borrow.Author.Tests.{eq-eqb, ne_eqb}
 use lib.ListN.{get_or}
 use Rattle.bolttable.proofs.Passes.{left, stops, goes_on, none_left}

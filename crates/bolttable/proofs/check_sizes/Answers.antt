@@ -2,7 +2,6 @@
 -- Assumes nothing.
 use mathlib.Core.Path.{◌≡◌, sym, ◌∙◌}
 use mathlib.Core.Bool.{true}
-use Prim.Native.Nat.{◌-◌}
 use mathlib.Core.List.{[]}
 use lib.ListN.{drop}
 use Rattle.arithmetic.specs.Range.{Within}

@@ -27,7 +27,10 @@ returns c =
     c.put_eight_u64.ensures.1 ∙ sets_front c.allocate-allocation.result.forces c.args.forces.now (omega arith) in
     let none = c.if-allocation-ne0.false in
     let args = c.args in
-    let forces = args.forces.now in record { equals = taken _ 0 0 _ _ (le-leb 8 _ c.if-forces-lt8.false) (sym same-refusal ∙ none)
-          (front ∙ ap (λ (a : Allocation). at_front a.forces forces) c.allocate-allocation.ensures.equals); best = λ zero. rw front
+    let forces = args.forces.now in record {
+      equals = taken _ 0 0 _ _ (le-leb 8 _ c.if-forces-lt8.false) (sym same-refusal ∙ none)
+          (front ∙ ap (λ (a : Allocation). at_front a.forces forces) c.allocate-allocation.ensures.equals);
+      best = λ zero. rw front
           (best_front _ args.count c.allocate-allocation.result.forces forces c.put_eight_u64.ensures.0
-          (c.allocate-allocation.ensures.best none)) }
+          (c.allocate-allocation.ensures.best none));
+    }

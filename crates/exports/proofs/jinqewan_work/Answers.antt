@@ -16,16 +16,18 @@ returns-then-fields-lt-JOINT_WORDS c = record { equals = too_short _ _ _ _ _ (si
 
 pub returns-then-res-lt-OUTCOME_WORDS : goal.returns-then-res-lt-OUTCOME_WORDS
 returns-then-res-lt-OUTCOME_WORDS c =
-    record { equals = too_short _ _ _ _ _
-      (simp (
-        le-leb table_word_count _ c.if-table-lt-TABLE_WORDS.false,
-        le-leb joint_word_count _ c.if-fields-lt-JOINT_WORDS.false,
-        lt-leb outcome_word_count _ c.if-res-lt-OUTCOME_WORDS.true,
-      )); demand = λ none. absurd (omega (arith, none)) }
+    record {
+      equals = too_short _ _ _ _ _
+          (simp (
+            le-leb table_word_count _ c.if-table-lt-TABLE_WORDS.false,
+            le-leb joint_word_count _ c.if-fields-lt-JOINT_WORDS.false,
+            lt-leb outcome_word_count _ c.if-res-lt-OUTCOME_WORDS.true,
+          ));
+      demand = λ none. absurd (omega (arith, none));
+    }
 
 pub work_one_face-requires : goal.work_one_face-requires
-work_one_face-requires c =
-    (
-      record { of_table = c.if-table-lt-TABLE_WORDS.false; of_joint = c.if-fields-lt-JOINT_WORDS.false; of_outcome = c.if-res-lt-OUTCOME_WORDS.false },
-      sym c.is_two_faced.ensures ∙ c.if-is_two_faced.false,
-    )
+work_one_face-requires c = (
+  record { of_table = c.if-table-lt-TABLE_WORDS.false; of_joint = c.if-fields-lt-JOINT_WORDS.false; of_outcome = c.if-res-lt-OUTCOME_WORDS.false },
+  sym c.is_two_faced.ensures ∙ c.if-is_two_faced.false,
+)

@@ -1,6 +1,6 @@
 -- `numbers_size` meets its contract: the size is that of the items passed, and one more adds its space and its digits. The measure
 -- is the count of numbers left. Assumes nothing.
-use Prim.Native.Nat.{◌+◌, ◌-◌, ◌≤◌}
+use Prim.Native.Nat.{◌+◌, ◌≤◌}
 use mathlib.Core.Path.{refl, ap, ◌∙◌}
 use native.Mathlib.Omega.{arith}
 use lib.ListN.{length}

@@ -1,6 +1,6 @@
 -- `put_letters` meets its contract as `put_numbers` does: a letter's item is its space and its byte. The measure is the count of
 -- letters left. Assumes nothing.
-use Prim.Native.Nat.{◌+◌, ◌-◌, ◌≤◌, ◌^◌, ◌<◌}
+use Prim.Native.Nat.{◌+◌, ◌≤◌, ◌^◌, ◌<◌}
 use native.Mathlib.Omega.{arith}
 use lib.ListN.{length, length-set}
 use Rattle.buffers.proofs.Puts.{put_none, put_byte_to, put_length}

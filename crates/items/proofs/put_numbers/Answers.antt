@@ -1,6 +1,5 @@
 -- `put_numbers` meets its contract: the items of the numbers passed are put, and one more is joined to them. The measure is the
 -- count of numbers left. Assumes nothing.
-use Prim.Native.Nat.{◌-◌}
 use native.Mathlib.Omega.{arith}
 use lib.ListN.{length-set}
 use Rattle.buffers.proofs.Puts.{put_none, put_length}

@@ -2,7 +2,7 @@
 use mathlib.Core.Path.{◌≡◌}
 use Prim.Native.Nat.{◌-◌, ◌≤◌}
 use lib.ListN.{drop}
-use Rattle.joint.specs.Ranges.{row_counts, levers}
+use Rattle.joint.specs.Ranges.{row_counts}
 use Rattle.joint.specs.Fields.{lever_checks}
 use Rattle.joint.specs.Steps.{found_by}
 use Rattle.joint.proofs.check_levers.Given as goal

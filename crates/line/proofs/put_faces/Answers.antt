@@ -1,5 +1,4 @@
 -- `put_faces` meets its contract: one line is put, or two, one after the other, where the panel is asked. Assumes nothing.
-use Prim.Native.Nat.{◌+◌}
 use mathlib.Core.Path.{◌≡◌, sym, ◌∙◌}
 use mathlib.Core.List.{◌++◌}
 use Rattle.buffers.proofs.Puts.{put_both, room_after}

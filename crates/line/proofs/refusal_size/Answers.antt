@@ -15,9 +15,13 @@ overflow_add-result-2 c =
 
 pub overflow_add-result : goal.overflow_add-result
 overflow_add-result c =
-    omega
-    (arith, c.digit_count.ensures, c.numbers_size.ensures, refusal_size c.args.number c.args.items.now,
-      refusal_short c.args.number c.args.items.now c.requires)
+    omega (
+      arith,
+      c.digit_count.ensures,
+      c.numbers_size.ensures,
+      refusal_size c.args.number c.args.items.now,
+      refusal_short c.args.number c.args.items.now c.requires,
+    )
 
 pub returns : goal.returns
 returns c =

@@ -11,17 +11,23 @@ use Rattle.line.proofs.shown_of.Goals as goal
 pub returns-then-refusal-eq10 : goal.returns-then-refusal-eq10
 returns-then-refusal-eq10 c =
     let refusal = c.args.refusal in
-    let told = c.face_count-told.ensures in record { numbers_value = (
+    let told = c.face_count-told.ensures in record {
+      numbers_value = (
         ap (λ (n : ℕ). take (2 + n) (refusal.number ∷ refusal.field ∷ refusal.face ∷ [])) told.0
             ∙ items_field refusal (eq-eqb _ 10 c.if-refusal-eq10.true),
         omega (arith, told.1),
-      ); numbers_len = refl }
+      );
+      numbers_len = refl;
+    }
 
 pub returns : goal.returns
 returns c =
     let refusal = c.args.refusal in
-    let told = c.face_count-told.ensures in record { numbers_value = (
+    let told = c.face_count-told.ensures in record {
+      numbers_value = (
         ap (λ (n : ℕ). take (1 + n) (refusal.number ∷ refusal.face ∷ 0 ∷ [])) told.0
             ∙ items_number refusal (ne_eqb _ 10 c.if-refusal-eq10.false),
         omega (arith, told.1),
-      ); numbers_len = refl }
+      );
+      numbers_len = refl;
+    }

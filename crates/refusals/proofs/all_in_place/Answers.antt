@@ -1,6 +1,5 @@
 -- `all_in_place` meets its contract: the rows left decide what all of them do (the laws of `Rows`). Assumes nothing.
 use mathlib.Core.Path.{refl, sym, ◌∙◌}
-use Prim.Native.Nat.{◌-◌}
 use native.Mathlib.Omega.{arith}
 use Rattle.refusals.proofs.Rows.{row_passes, row_fails, rows_end}
 use Rattle.refusals.proofs.all_in_place.Goals as goal

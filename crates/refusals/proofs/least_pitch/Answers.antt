@@ -1,7 +1,7 @@
 -- `least_pitch` meets its contract: the least pitch so far and the rows left tell of each distance what all rows do (the laws of `Rows`).
 -- Assumes nothing.
 use mathlib.Core.Path.{◌≡◌, sym, ap, ◌∙◌}
-use Prim.Native.Nat.{ℕ, min, ◌+◌, ◌-◌}
+use Prim.Native.Nat.{ℕ, min, ◌+◌}
 use native.Mathlib.Omega.{arith}
 use Rattle.arithmetic.specs.Range.{Within, ◌to◌}
 use Rattle.joint.specs.Ranges.{most_lever}
@@ -21,9 +21,12 @@ returns-then-next-eq0 c =
     ∙ ap (λ next. tells a.rows a.levers (min l.pitch next) (l.row + 1) distance) (sym c.pitch_of-next.ensures) in
     let a = c.args in
     let l = c.loop-row in
-    let none : min l.pitch c.pitch_of-next.result ≡ 0 = omega (arith, c.if-next-eq0.true) in record { by_index = (λ distance within. told distance within
+    let none : min l.pitch c.pitch_of-next.result ≡ 0 = omega (arith, c.if-next-eq0.true) in record {
+      by_index = (λ distance within. told distance within
           ∙ ap (λ pitch. tells a.rows a.levers pitch (l.row + 1) distance) none
-          ∙ no_pitch a.rows a.levers distance (l.row + 1) within.low); levers_len = l.invariant.2 }
+          ∙ no_pitch a.rows a.levers distance (l.row + 1) within.low);
+      levers_len = l.invariant.2;
+    }
 
 pub loop-row-preserved : goal.loop-row-preserved
 loop-row-preserved c =

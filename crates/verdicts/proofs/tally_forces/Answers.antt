@@ -1,6 +1,6 @@
 -- `tally_forces` meets its contract: each turn counts one row more (the law `one_more`). Assumes nothing.
 use mathlib.Core.Path.{◌≡◌, ◌∙◌}
-use Prim.Native.Nat.{◌-◌, ◌*◌, ◌≤◌}
+use Prim.Native.Nat.{◌*◌, ◌≤◌}
 use native.Mathlib.Omega.{arith}
 use lib.Dec.{eqb}
 use lib.ListN.{get_or, take}
@@ -46,8 +46,7 @@ overflow_add-pulling c =
 pub loop-row-preserved : goal.loop-row-preserved
 loop-row-preserved c =
     let lever-le : get_or c.args.levers c.loop-row.row 0 ≤ most_lever = c.requires.lever_most c.loop-row.row in
-    let force_le : get_or c.args.forces c.loop-row.row 0 ≤ most_limit = c.requires.force_most c.loop-row.row in
-    (
+    let force_le : get_or c.args.forces c.loop-row.row 0 ≤ most_limit = c.requires.force_most c.loop-row.row in (
       omega arith,
       one_more _ _ _ _ _ _ (omega arith) (omega arith) lever-le force_le _ c.force_count-pulling.ensures c.loop-row.invariant.1,
     )

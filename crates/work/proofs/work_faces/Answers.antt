@@ -10,18 +10,24 @@ work_connection-one-requires c = c.requires
 
 pub returns-then-one-ne0 : goal.returns-then-one-ne0
 returns-then-one-ne0 c =
-    let a = c.args in record { equals = c.refused.ensures
+    let a = c.args in record {
+      equals = c.refused.ensures
           ∙ first_refused a.column a.bolts a.area a.first a.second c.work_connection-one.ensures.equals
-          c.if-one-ne0.true; demand = (λ none. absurd (c.if-one-ne0.true (refusal_is _ _ 1 _ c.refused.ensures none))) }
+          c.if-one-ne0.true;
+      demand = (λ none. absurd (c.if-one-ne0.true (refusal_is _ _ 1 _ c.refused.ensures none)));
+    }
 
 pub work_connection-two-requires : goal.work_connection-two-requires
 work_connection-two-requires c = c.requires
 
 pub returns-then-two-ne0 : goal.returns-then-two-ne0
 returns-then-two-ne0 c =
-    let a = c.args in record { equals = c.refused-then-two-ne0.ensures
+    let a = c.args in record {
+      equals = c.refused-then-two-ne0.ensures
           ∙ second_refused a.column a.bolts a.area a.first a.second c.work_connection-one.ensures.equals c.if-one-ne0.false
-          c.work_connection-two.ensures.equals c.if-two-ne0.true; demand = (λ none. absurd (c.if-two-ne0.true (refusal_is _ _ 2 _ c.refused-then-two-ne0.ensures none))) }
+          c.work_connection-two.ensures.equals c.if-two-ne0.true;
+      demand = (λ none. absurd (c.if-two-ne0.true (refusal_is _ _ 2 _ c.refused-then-two-ne0.ensures none)));
+    }
 
 pub panel_verdict-panel-requires : goal.panel_verdict-panel-requires
 panel_verdict-panel-requires c =
@@ -39,14 +45,17 @@ panel_verdict-panel-requires c =
 
 pub returns : goal.returns
 returns c =
-    let a = c.args in record { equals = (λ i. record {
+    let a = c.args in record {
+      equals = (λ i. record {
         refusal = record { number = 0; field = 0; face = 0 };
         result = c.work_connection-one.result.result;
         other = c.work_connection-two.result.result;
         panel = c.panel_verdict-panel.ensures i;
       })
           ∙ both_taken_lem a.column a.bolts a.area a.first a.second c.work_connection-one.ensures.equals c.if-one-ne0.false
-          c.work_connection-two.ensures.equals c.if-two-ne0.false; demand = (λ none. record {
+          c.work_connection-two.ensures.equals c.if-two-ne0.false;
+      demand = (λ none. record {
         of_first = c.work_connection-one.ensures.demand c.if-one-ne0.false;
         of_second = c.work_connection-two.ensures.demand c.if-two-ne0.false;
-      }) }
+      });
+    }

@@ -18,10 +18,13 @@ returns-then-is_two_faced c =
     let two-faced : two_faced c.args.joint.face.rows ≡ true = sym c.is_two_faced.ensures ∙ c.if-is_two_faced.true in
     let j = c.args.joint in
     let area = c.args.area in
-    let first = c.first_face.ensures in record { equals = c.work_faces.ensures.equals ∙ ap (λ (face : Face). worked_faces j.column j.bolts area face j.other) first
-          ∙ of_two area j two-faced; demand = (λ none. demand_both area j _ two-faced
+    let first = c.first_face.ensures in record {
+      equals = c.work_faces.ensures.equals ∙ ap (λ (face : Face). worked_faces j.column j.bolts area face j.other) first
+          ∙ of_two area j two-faced;
+      demand = (λ none. demand_both area j _ two-faced
           (subst (λ (face : Face). FacesDemand3 j.column j.bolts area face j.other c.work_faces.result) first
-          (c.work_faces.ensures.demand none))) }
+          (c.work_faces.ensures.demand none)));
+    }
 
 pub work_connection-requires : goal.work_connection-requires
 work_connection-requires c = c.requires
@@ -31,5 +34,8 @@ returns c =
     let alone : two_faced c.args.joint.face.rows ≡ false = sym c.is_two_faced.ensures ∙ c.if-is_two_faced.false in
     let j = c.args.joint in
     let area = c.args.area in
-    let is = c.of_one_face.ensures in record { equals = is ∙ ap of_one_face c.work_connection.ensures.equals ∙ of_one area j alone; demand = (λ none. demand_alone area j _ alone
-          (rw is (c.work_connection.ensures.demand (sym (ap (λ (o : Outcome). o.refusal.number) is) ∙ none)))) }
+    let is = c.of_one_face.ensures in record {
+      equals = is ∙ ap of_one_face c.work_connection.ensures.equals ∙ of_one area j alone;
+      demand = (λ none. demand_alone area j _ alone
+          (rw is (c.work_connection.ensures.demand (sym (ap (λ (o : Outcome). o.refusal.number) is) ∙ none))));
+    }

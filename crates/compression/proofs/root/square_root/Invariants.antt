@@ -1,5 +1,4 @@
 -- What each turn of a loop keeps, and why the loop or the recursion ends.
-use Prim.Native.Nat.{◌-◌}
 use Rattle.compression.specs.Root.{Guess}
 use Rattle.compression.proofs.root.square_root.Given as goal
 

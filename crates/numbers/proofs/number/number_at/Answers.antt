@@ -1,6 +1,5 @@
 -- `number::number_at` meets its contract. The loop's head is `Head`: a number is the value so far plus the scale times what the groups
 -- from `at` on give; each return is one case of reading a group. The measure is the count of bytes left. Assumes nothing.
-use Prim.Native.Nat.{◌-◌}
 use native.Mathlib.Omega.{arith}
 use Rattle.numbers.proofs.Groups.{Turn, head_none, head_more, answer_cut, answer_over, answer_longer, answer_value}
 use Rattle.numbers.proofs.Groups.{last_fits, more_fits, scale_fits}

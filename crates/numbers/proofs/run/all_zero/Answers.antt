@@ -1,6 +1,5 @@
 -- `run::all_zero` meets its contract: as long as the numbers passed are 0, the answer is that of the rest. The measure is their count.
 -- Assumes nothing.
-use Prim.Native.Nat.{◌-◌}
 use mathlib.Core.Path.{sym, ◌∙◌}
 use Rattle.numbers.proofs.Puts.{zero_next, zero_not, zero_end}
 use Rattle.numbers.proofs.run.all_zero.Goals as goal

@@ -1,6 +1,5 @@
 -- `run::numbers_at` meets its contract: the loop's head is `RunHead`, a number carries it on, and anything else is the run's refusal.
 -- The measure is the count of numbers left. Assumes nothing.
-use Prim.Native.Nat.{◌-◌}
 use mathlib.Core.Path.{ap, ◌∙◌}
 use native.Mathlib.Omega.{arith}
 use Rattle.numbers.specs.Answers.{refusal_number}

@@ -1,6 +1,5 @@
 -- `run::put_numbers` meets its contract: the loop's head is `PutsHead`, and a number that was put carries it on. The measure is the count
 -- of numbers left. Assumes nothing.
-use Prim.Native.Nat.{◌-◌}
 use Rattle.numbers.proofs.Puts.{puts_none, puts_room, puts_more, puts_done}
 use Rattle.numbers.proofs.run.put_numbers.Goals as goal
 

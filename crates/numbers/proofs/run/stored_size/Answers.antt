@@ -1,6 +1,6 @@
 -- `run::stored_size` meets its contract: the size so far and that of the numbers left make the whole. The measure is the count of
 -- numbers left. Assumes nothing.
-use Prim.Native.Nat.{ℕ, ◌+◌, ◌-◌}
+use Prim.Native.Nat.{ℕ, ◌+◌}
 use mathlib.Core.Path.{◌≡◌, ap}
 use mathlib.Core.List.{List}
 use native.Mathlib.Omega.{arith}

@@ -1,5 +1,4 @@
 -- `vectors::compare::compare` meets its contract: the loop goes by `Head`, and the measure is the count of places left. Assumes nothing.
-use Prim.Native.Nat.{◌-◌}
 use mathlib.Core.Path.{sym}
 use Rattle.vectors.proofs.Differences.{head_none, head_more, head_differs, head_done, lengths_differ}
 use Rattle.vectors.proofs.compare.compare.Goals as goal

@@ -1,5 +1,4 @@
 -- `vectors::reader::put_numbers` is safe and ends: the measure is the count of words left. Assumes nothing.
-use Prim.Native.Nat.{◌-◌}
 use native.Mathlib.Omega.{arith}
 use Rattle.vectors.proofs.reader.put_numbers.Goals as goal
 

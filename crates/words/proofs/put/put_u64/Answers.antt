@@ -1,6 +1,5 @@
 -- `put::put_u64` meets its contract: the loop's head is `CopyHead`, and a number that was copied carries it on. The measure is the count
 -- of numbers left. Assumes nothing.
-use Prim.Native.Nat.{◌-◌}
 use native.Mathlib.Omega.{arith}
 use Rattle.words.proofs.Copies.{copy_none, copy_length, copy_more, copy_done}
 use Rattle.words.proofs.put.put_u64.Goals as goal

@@ -29,8 +29,11 @@ returns c =
     let put = c.put_result-2.ensures.0
     ∙ ap (λ (slice : List ℕ). sets slice face_word_count (result_words outcome.other)) c.put_result.ensures.0
     ∙ ap (λ (n : ℕ). sets (sets words 0 (result_words outcome.result)) n (result_words outcome.other)) (sym size ∙ sym (zero-add _))
-    ∙ sym (sets-append words 0 (result_words outcome.result) (result_words outcome.other)) in record { forces_len = (eight, eight'); words_after = ap (λ (slice : List ℕ). set slice 34 c.panel_flag-flag.result) put
+    ∙ sym (sets-append words 0 (result_words outcome.result) (result_words outcome.other)) in record {
+      forces_len = (eight, eight');
+      words_after = ap (λ (slice : List ℕ). set slice 34 c.panel_flag-flag.result) put
           ∙ ap (set (sets words 0 both) 34) c.panel_flag-flag.ensures
           ∙ copied_after words both (panel_flag outcome.panel ∷ [])
           (rw length-append (omega (arith, size, result_length outcome.other eight')))
-          (omega arith) }
+          (omega arith);
+    }
