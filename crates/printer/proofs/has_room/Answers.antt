@@ -16,7 +16,7 @@ returns-then-most_printed-room c =
     let input = args.input.now in
     sym
     (le-leb (length (concatenated (lines_of 1 input))) args.room
-    (omega (arith, lines_size input (λ k. (c.shared_slice_known-1.given k).fits), c.most_printed.ensures, c.if-most_printed-room.true)))
+    (omega (arith, lines_size input (λ k. (c.type_inv.input k).fits), c.most_printed.ensures, c.if-most_printed-room.true)))
 
 pub returns : goal.returns
 returns c = ap (λ (size : ℕ). leb size c.args.room) c.lines_size.ensures

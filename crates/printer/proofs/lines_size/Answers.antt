@@ -22,7 +22,7 @@ overflow_add-size c =
     let read_here : c.read-reading.result ≡ reading sheet_kind (drop c.loop-from.from lent) = let input = lent in
     let from = c.loop-from.from in
     c.read-reading.ensures ∙ ap (reading sheet_kind) (take_all (length input - from) (drop from input) (omega (arith, length-drop from input))) in
-    let lent-bytes : Bytes lent = λ k. (c.shared_slice_known-1.given k).fits in
+    let lent-bytes : Bytes lent = λ k. (c.type_inv.input k).fits in
     omega (
       arith,
       c.reading_size-size.ensures,

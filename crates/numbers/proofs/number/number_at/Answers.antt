@@ -15,7 +15,7 @@ returns-then-before-byte c =
       head = c.loop-at.invariant;
       inside = c.loop-at-test.true;
       reads = c.wide-byte.ensures;
-      whole = omega (arith, c.shared_slice_known-in-loop-at-1.given c.loop-at.at);
+      whole = omega (arith, c.type_inv.bytes c.loop-at.at);
     } in
     answer_over turn c.if-before-byte.true
 
@@ -26,7 +26,7 @@ returns-then-before-byte-2 c =
       head = c.loop-at.invariant;
       inside = c.loop-at-test.true;
       reads = c.wide-byte.ensures;
-      whole = omega (arith, c.shared_slice_known-in-loop-at-1.given c.loop-at.at);
+      whole = omega (arith, c.type_inv.bytes c.loop-at.at);
     } in
     answer_longer turn c.if-before-byte.false c.if-byte-lt128.true c.if-before-byte-2.true
 
@@ -36,7 +36,7 @@ overflow_mul-result c =
       head = c.loop-at.invariant;
       inside = c.loop-at-test.true;
       reads = c.wide-byte.ensures;
-      whole = omega (arith, c.shared_slice_known-in-loop-at-1.given c.loop-at.at);
+      whole = omega (arith, c.type_inv.bytes c.loop-at.at);
     } in
     omega (arith, last_fits turn c.if-before-byte.false c.if-byte-lt128.true)
 
@@ -46,7 +46,7 @@ overflow_add-result c =
       head = c.loop-at.invariant;
       inside = c.loop-at-test.true;
       reads = c.wide-byte.ensures;
-      whole = omega (arith, c.shared_slice_known-in-loop-at-1.given c.loop-at.at);
+      whole = omega (arith, c.type_inv.bytes c.loop-at.at);
     } in
     record { fits = last_fits turn c.if-before-byte.false c.if-byte-lt128.true }
 
@@ -56,7 +56,7 @@ returns-then-byte-lt128 c =
       head = c.loop-at.invariant;
       inside = c.loop-at-test.true;
       reads = c.wide-byte.ensures;
-      whole = omega (arith, c.shared_slice_known-in-loop-at-1.given c.loop-at.at);
+      whole = omega (arith, c.type_inv.bytes c.loop-at.at);
     } in
     answer_value turn c.if-before-byte.false c.if-byte-lt128.true c.if-before-byte-2.false
 
@@ -66,7 +66,7 @@ overflow_mul-value c =
       head = c.loop-at.invariant;
       inside = c.loop-at-test.true;
       reads = c.wide-byte.ensures;
-      whole = omega (arith, c.shared_slice_known-in-loop-at-1.given c.loop-at.at);
+      whole = omega (arith, c.type_inv.bytes c.loop-at.at);
     } in
     omega (arith, more_fits turn c.if-before-byte.false c.if-byte-lt128.false)
 
@@ -76,7 +76,7 @@ overflow_add-value c =
       head = c.loop-at.invariant;
       inside = c.loop-at-test.true;
       reads = c.wide-byte.ensures;
-      whole = omega (arith, c.shared_slice_known-in-loop-at-1.given c.loop-at.at);
+      whole = omega (arith, c.type_inv.bytes c.loop-at.at);
     } in
     record { fits = more_fits turn c.if-before-byte.false c.if-byte-lt128.false }
 
@@ -86,7 +86,7 @@ overflow_mul-scale c =
       head = c.loop-at.invariant;
       inside = c.loop-at-test.true;
       reads = c.wide-byte.ensures;
-      whole = omega (arith, c.shared_slice_known-in-loop-at-1.given c.loop-at.at);
+      whole = omega (arith, c.type_inv.bytes c.loop-at.at);
     } in
     record { fits = scale_fits turn c.if-before-byte.false c.if-byte-lt128.false }
 
@@ -96,7 +96,7 @@ loop-at-preserved c =
       head = c.loop-at.invariant;
       inside = c.loop-at-test.true;
       reads = c.wide-byte.ensures;
-      whole = omega (arith, c.shared_slice_known-in-loop-at-1.given c.loop-at.at);
+      whole = omega (arith, c.type_inv.bytes c.loop-at.at);
     } in
     head_more turn c.if-before-byte.false c.if-byte-lt128.false
 

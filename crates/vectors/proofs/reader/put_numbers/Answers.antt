@@ -3,4 +3,4 @@ use native.Mathlib.Omega.{arith}
 use Rattle.vectors.proofs.reader.put_numbers.Goals as goal
 
 pub overflow_cast-numbers : goal.overflow_cast-numbers
-overflow_cast-numbers c = omega (arith, c.shared_slice_known-1.given c.loop-i.i)
+overflow_cast-numbers c = omega (arith, c.type_inv.words c.loop-i.i)
