@@ -1,5 +1,5 @@
-// Whether the standard input was read to its end. Half of an input must never be taken for all of it, and `io::read_full` stops at the end
-// and at a failure alike: one read more tells which. For the programs, which say it on standard error.
+// Whether an input was read to its end. Half of an input must never be taken for all of it, and `io::read_full` stops at the end and at
+// a failure alike: one read more tells which. For the programs, which ask it of their standard input and say it on standard error.
 #![tactic(auto)]
 
 ghost use Rattle.std.specs.Prelude.{◌≤◌, ◌≡◌, true};
