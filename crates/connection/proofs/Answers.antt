@@ -39,20 +39,20 @@ pub admissible : (column : Column) (face : Face) → ColumnInRange column → Fa
     → levers_fall face ≡ true → too_tight face.extended (spacing_of column face) ≡ false → Admissible column face
 unfolding too_tight
 admissible column face c f eight falling loose =
-    let past-column = neither _ _ loose in
-    let past-plate = neither _ _ past-column.1 in
-    let past-extension = neither _ _ past-plate.1 in
-    let edges = neither _ _ past-extension.1 in
+    let past_column = neither _ _ loose in
+    let past_plate = neither _ _ past_column.1 in
+    let past_extension = neither _ _ past_plate.1 in
+    let edges = neither _ _ past_extension.1 in
     let mx = (spacing_of column face).extension in
     record {
       column = c;
       face = f;
       falls = falls face.levers face.rows (omega (arith, eight, f.rows.high)) falling;
-      column_m = ltb-false _ least_distance past-column.0;
-      plate_m = ltb-false _ least_distance past-plate.0;
+      column_m = ltb-false _ least_distance past_column.0;
+      plate_m = ltb-false _ least_distance past_plate.0;
       extension_m = λ extended.
           ltb-false _ least_distance
-          (ap (λ b. b && ltb mx least_distance) (sym (eq-eqb face.extended 1 extended)) ∙ past-extension.0);
+          (ap (λ b. b && ltb mx least_distance) (sym (eq-eqb face.extended 1 extended)) ∙ past_extension.0);
       column_edge = ltb-false _ least_edge edges.0;
       plate_edge = ltb-false _ least_edge edges.1;
     }

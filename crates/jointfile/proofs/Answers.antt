@@ -31,16 +31,16 @@ use Rattle.jointfile.specs.declared.FileKind.TheVariants.{Old, New}
 
 -- ---- the levers in eight places
 
-drop-replicate : (k n : ℕ) → drop k (replicate n (zero)) ≡ replicate (n - k) zero
-drop-replicate zero n = rw sub-zero
-drop-replicate (suc k) zero = rw zero-sub
-drop-replicate (suc k) (suc n) =
+drop_replicate : (k n : ℕ) → drop k (replicate n (zero)) ≡ replicate (n - k) zero
+drop_replicate zero n = rw sub-zero
+drop_replicate (suc k) zero = rw zero-sub
+drop_replicate (suc k) (suc n) =
     let less : suc n - suc k ≡ n - k = omega arith in
-    rw less (drop-replicate k n)
+    rw less (drop_replicate k n)
 
 levers_eight : (rows : ℕ) (levers : List ℕ) → length levers ≡ rows → levers ++ drop rows (replicate 8 0) ≡ eight_places levers
 unfolding eight_places
-levers_eight rows levers e = rw (e, drop-replicate rows 8)
+levers_eight rows levers e = rw (e, drop_replicate rows 8)
 
 -- ---- what follows a row count
 

@@ -13,6 +13,12 @@ use Rattle.allocation.specs.Allocation.{none_above, allocated}
 use Rattle.allocation.proofs.Answers.{at_most_eight, product_le}
 use Rattle.allocation.proofs.Answers.{refused_by_3, refused_by_7, refused_by_8, shareable, taken, no_refusal_is_best}
 use Rattle.allocation.proofs.allocate.Goals as goal
+use Rattle.allocation.proofs.allocate.Goals.{After-none_above}
+
+none_too_large : (c : After-none_above) → c.none_above.result ≡ none_above most_limit (take (group_count c.args.count) c.args.limits.now)
+unfolding group_count
+none_too_large c =
+    c.none_above.ensures
 
 pub returns-then-not-is_row_count : goal.returns-then-not-is_row_count
 returns-then-not-is_row_count c =
@@ -44,10 +50,10 @@ slice_bounds-none_above-end c = sym (length-take-le _ _ (omega (arith, c.if-limi
 pub returns-then-not-none_above : goal.returns-then-not-none_above
 unfolding group_count
 returns-then-not-none_above c =
-    let none-too-large : c.none_above.result ≡ none_above most_limit (take (group_count c.args.count) c.args.limits.now) = c.none_above.ensures in
+    let here = goal.at.returns-then-not-none_above c in
     let rows : within row_counts c.args.count ≡ true = sym c.is_row_count.ensures ∙ c.if-not-is_row_count.false in
     let enough : group_count c.args.count ≤ length c.args.limits.now = omega (arith, c.if-limits-groups.false) in
-    let large = sym none-too-large ∙ c.if-not-none_above.true in
+    let large = sym (none_too_large here.After-none_above) ∙ c.if-not-none_above.true in
     let e = refused_by_8 _ _ rows enough large ∙ sym c.refused-then-not-none_above.ensures in
     record { equals = sym e; best = no_refusal_is_best _ _ _ e }
 
@@ -56,8 +62,8 @@ unfolding group_count
 share-requires c =
     let rows : within row_counts c.args.count ≡ true = sym c.is_row_count.ensures ∙ c.if-not-is_row_count.false in
     let enough : group_count c.args.count ≤ length c.args.limits.now = omega (arith, c.if-limits-groups.false) in
-    let none-too-large : c.none_above.result ≡ none_above most_limit (take (group_count c.args.count) c.args.limits.now) = c.none_above.ensures in
-    let small : none_above most_limit (take (group_count c.args.count) c.args.limits.now) ≡ true = sym none-too-large ∙ c.if-not-none_above.false in
+    let small : none_above most_limit (take (group_count c.args.count) c.args.limits.now) ≡ true = sym (none_too_large (goal.at.share-requires c).After-none_above)
+    ∙ c.if-not-none_above.false in
     shareable _ _ rows enough small
 
 pub returns : goal.returns
@@ -65,8 +71,8 @@ unfolding group_count
 returns c =
     let rows : within row_counts c.args.count ≡ true = sym c.is_row_count.ensures ∙ c.if-not-is_row_count.false in
     let enough : group_count c.args.count ≤ length c.args.limits.now = omega (arith, c.if-limits-groups.false) in
-    let none-too-large : c.none_above.result ≡ none_above most_limit (take (group_count c.args.count) c.args.limits.now) = c.none_above.ensures in
-    let small : none_above most_limit (take (group_count c.args.count) c.args.limits.now) ≡ true = sym none-too-large ∙ c.if-not-none_above.false in
+    let small : none_above most_limit (take (group_count c.args.count) c.args.limits.now) ≡ true = sym (none_too_large (goal.at.returns c).After-none_above)
+    ∙ c.if-not-none_above.false in
     let e : allocated c.args.count c.args.limits.now ≡ record { refusal = 0; forces = c.share.result }
     = taken _ _ rows enough small
     ∙ (λ i. record { refusal = 0; forces = sym c.share.ensures i }) in

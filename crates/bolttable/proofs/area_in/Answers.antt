@@ -5,14 +5,11 @@ use native.Mathlib.Omega.{arith}
 use Rattle.arithmetic.specs.Range.{within}
 use Rattle.arithmetic.proofs.Bounds.{within_yes}
 use Rattle.bolttable.specs.Loading.{size_counts}
-use Rattle.bolttable.specs.declared.BoltTable.{BoltTable}
 use Rattle.bolttable.proofs.Passes.{passed, uncounted}
 use Rattle.bolttable.proofs.area_in.Goals as goal
 
 pub returns-then-not-is_size_count : goal.returns-then-not-is_size_count
-returns-then-not-is_size_count c =
-    let handed : BoltTable = record { count = c.args.count; diameters = c.args.diameters.now; areas = c.args.areas.now } in
-    uncounted handed _ (sym c.is_size_count.ensures ∙ c.if-not-is_size_count.true)
+returns-then-not-is_size_count c = uncounted (record { count = c.args.count; diameters = c.args.diameters.now; areas = c.args.areas.now }) _ (sym c.is_size_count.ensures ∙ c.if-not-is_size_count.true)
 
 pub area_among-requires : goal.area_among-requires
 area_among-requires c =
@@ -22,6 +19,5 @@ area_among-requires c =
 
 pub returns : goal.returns
 returns c =
-    let handed : BoltTable = record { count = c.args.count; diameters = c.args.diameters.now; areas = c.args.areas.now } in
     let counted : within size_counts c.args.count ≡ true = sym c.is_size_count.ensures ∙ c.if-not-is_size_count.false in
-    c.area_among.ensures ∙ passed handed counted _
+    c.area_among.ensures ∙ passed (record { count = c.args.count; diameters = c.args.diameters.now; areas = c.args.areas.now }) counted _

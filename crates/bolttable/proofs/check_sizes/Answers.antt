@@ -2,11 +2,9 @@
 -- Assumes nothing.
 use mathlib.Core.Path.{◌≡◌, sym, ◌∙◌}
 use mathlib.Core.Bool.{true}
-use mathlib.Core.List.{[]}
-use lib.ListN.{drop}
 use Rattle.arithmetic.specs.Range.{Within}
 use Rattle.arithmetic.proofs.Bounds.{exactly, ◌⊗◌, fits}
-use Rattle.bolttable.specs.Loading.{Size, bolt_diameters, sizes_in, size_in_range}
+use Rattle.bolttable.specs.Loading.{bolt_diameters, size_in_range}
 use Rattle.bolttable.proofs.Areas.{size_ranges}
 use Rattle.bolttable.proofs.Checks.{none_passed, one_outside, one_more, all_inside, all_rise, all_fit}
 use Rattle.bolttable.proofs.Checks.{by_16, by_17, by_18, by_none}
@@ -23,41 +21,38 @@ returns-then-not-is_in_range c =
 
 pub overflow_mul-fit : goal.overflow_mul-fit
 overflow_mul-fit c =
-    let own : Size = size_at c.args.diameters.now c.args.areas.now c.loop-place.place in
-    let inside : size_in_range (own) ≡ true = sym c.is_in_range.ensures ∙ c.if-not-is_in_range.false in
-    let diameter : Within bolt_diameters (own).diameter = (size_ranges own (rw inside tt)).0 in
+    let inside : size_in_range (size_at c.args.diameters.now c.args.areas.now c.loop-place.place) ≡ true = sym c.is_in_range.ensures ∙ c.if-not-is_in_range.false in
+    let diameter : Within bolt_diameters (size_at c.args.diameters.now c.args.areas.now c.loop-place.place).diameter = (size_ranges (size_at c.args.diameters.now c.args.areas.now c.loop-place.place) (rw inside tt)).0 in
     fits (exactly 785 ⊗ diameter) tt
 
 pub overflow_mul-fit-in-loop-place : goal.overflow_mul-fit-in-loop-place
 overflow_mul-fit-in-loop-place c =
-    let own : Size = size_at c.args.diameters.now c.args.areas.now c.loop-place.place in
-    let inside : size_in_range (own) ≡ true = sym c.is_in_range.ensures ∙ c.if-not-is_in_range.false in
-    let diameter : Within bolt_diameters (own).diameter = (size_ranges own (rw inside tt)).0 in
+    let inside : size_in_range (size_at c.args.diameters.now c.args.areas.now c.loop-place.place) ≡ true = sym c.is_in_range.ensures ∙ c.if-not-is_in_range.false in
+    let diameter : Within bolt_diameters (size_at c.args.diameters.now c.args.areas.now c.loop-place.place).diameter = (size_ranges (size_at c.args.diameters.now c.args.areas.now c.loop-place.place) (rw inside tt)).0 in
     fits (exactly 785 ⊗ diameter ⊗ diameter) tt
 
 pub loop-place-preserved : goal.loop-place-preserved
 loop-place-preserved c =
-    let own : Size = size_at c.args.diameters.now c.args.areas.now c.loop-place.place in
-    let inside : size_in_range (own) ≡ true = sym c.is_in_range.ensures ∙ c.if-not-is_in_range.false in
+    let inside : size_in_range (size_at c.args.diameters.now c.args.areas.now c.loop-place.place) ≡ true = sym c.is_in_range.ensures ∙ c.if-not-is_in_range.false in
     let left = sizes_from _ _ _ c.requires.0 c.requires.1 _ c.loop-place-test.true in
     one_more c.loop-place.invariant left inside
 
 pub returns-then-not-rise : goal.returns-then-not-rise
 returns-then-not-rise c =
-    let none_left : drop c.loop-place.place (sizes_in c.args.count c.args.diameters.now c.args.areas.now) ≡ [] = sizes_end _ _ _ c.requires.0 c.requires.1 _ c.loop-place-test.false in
     let p = c.loop-place.invariant in
+    let none_left = sizes_end _ _ _ c.requires.0 c.requires.1 _ c.loop-place-test.false in
     by_17 _ (all_inside p none_left) (all_rise p none_left ∙ c.if-not-rise.true)
 
 pub returns-then-not-fit : goal.returns-then-not-fit
 returns-then-not-fit c =
-    let none_left : drop c.loop-place.place (sizes_in c.args.count c.args.diameters.now c.args.areas.now) ≡ [] = sizes_end _ _ _ c.requires.0 c.requires.1 _ c.loop-place-test.false in
     let p = c.loop-place.invariant in
+    let none_left = sizes_end _ _ _ c.requires.0 c.requires.1 _ c.loop-place-test.false in
     by_18 _ (all_inside p none_left) (all_rise p none_left ∙ c.if-not-rise.false)
     (all_fit p none_left ∙ c.if-not-fit.true)
 
 pub returns : goal.returns
 returns c =
-    let none_left : drop c.loop-place.place (sizes_in c.args.count c.args.diameters.now c.args.areas.now) ≡ [] = sizes_end _ _ _ c.requires.0 c.requires.1 _ c.loop-place-test.false in
     let p = c.loop-place.invariant in
+    let none_left = sizes_end _ _ _ c.requires.0 c.requires.1 _ c.loop-place-test.false in
     by_none _ (all_inside p none_left) (all_rise p none_left ∙ c.if-not-rise.false)
     (all_fit p none_left ∙ c.if-not-fit.false)

@@ -8,15 +8,15 @@ use Rattle.compression.proofs.resistances_of.Goals as goal
 
 pub web_buckling-unreduced-requires : goal.web_buckling-unreduced-requires
 web_buckling-unreduced-requires c =
-    let web-at : ColumnWebParts c.bearing_length-b.result c.args.steel.column c.args.column = let a = c.args in
+    let web_at : ColumnWebParts c.bearing_length-b.result c.args.steel.column c.args.column = let a = c.args in
     rw c.bearing_length-b.ensures (web_parts a.steel a.column a.beam a.plate a.welds c.requires) in
-    web-at
+    web_at
 
 pub web_bearing-requires : goal.web_bearing-requires
 web_bearing-requires c =
-    let web-at : ColumnWebParts c.bearing_length-b.result c.args.steel.column c.args.column = let a = c.args in
+    let web_at : ColumnWebParts c.bearing_length-b.result c.args.steel.column c.args.column = let a = c.args in
     rw c.bearing_length-b.ensures (web_parts a.steel a.column a.beam a.plate a.welds c.requires) in
-    web-at
+    web_at
 
 pub reduced_near_end-requires : goal.reduced_near_end-requires
 reduced_near_end-requires c = (rw c.web_buckling-unreduced.ensures (buckling_small _ _ _), c.requires.column)

@@ -31,12 +31,12 @@ overflow_mul-limit-4 c = let r = c.requires in fits (exactly 275 ⊗ r.bearing_l
 
 pub returns-in-Positive : goal.returns-in-Positive
 returns-in-Positive c =
-    let found-root : (let a = c.args in root_meaning c.square_root-found.result ≡ web_buckling a.length a.strength a.column) = let a = c.args in
+    let found_root : (let a = c.args in root_meaning c.square_root-found.result ≡ web_buckling a.length a.strength a.column) = let a = c.args in
     buckling_root a.length a.strength a.column c.requires c.square_root-found.result c.square_root-found.ensures in
-    sym (ap root_meaning c.in-Positive.is) ∙ found-root
+    sym (ap root_meaning c.in-Positive.is) ∙ found_root
 
 pub returns-in-Zero : goal.returns-in-Zero
 returns-in-Zero c =
-    let found-root : (let a = c.args in root_meaning c.square_root-found.result ≡ web_buckling a.length a.strength a.column) = let a = c.args in
+    let found_root : (let a = c.args in root_meaning c.square_root-found.result ≡ web_buckling a.length a.strength a.column) = let a = c.args in
     buckling_root a.length a.strength a.column c.requires c.square_root-found.result c.square_root-found.ensures in
-    sym (ap root_meaning c.in-Zero.is) ∙ found-root
+    sym (ap root_meaning c.in-Zero.is) ∙ found_root

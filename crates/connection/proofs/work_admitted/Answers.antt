@@ -26,8 +26,8 @@ pub returns-in_default : goal.returns-in_default
 unfolding refusals_after_10 checks_from
 returns-in_default c =
     let force : c.force_of.result ≡ force_of (governing_of c.args.panel_counts c.args.column c.args.face) = c.force_of.ensures ∙ ap force_of c.governing_of-check.ensures.0 in
-    let cap-is : c.tension_cap-cap_case.result ≡ cap_case c.args.face.loads (force_of (governing_of c.args.panel_counts c.args.column c.args.face)) = c.tension_cap-cap_case.ensures ∙ ap (cap_case c.args.face.loads) force in
-    let above = exceeded _ _ (sym c.in_default.is ∙ cap-is) in
+    let cap_is : c.tension_cap-cap_case.result ≡ cap_case c.args.face.loads (force_of (governing_of c.args.panel_counts c.args.column c.args.face)) = c.tension_cap-cap_case.ensures ∙ ap (cap_case c.args.face.loads) force in
+    let above = exceeded _ _ (sym c.in_default.is ∙ cap_is) in
     c.refused.ensures ∙ sym (fails _ refused_after_10 15 _ _ (ap not above))
 
 pub result_of-requires : goal.result_of-requires
@@ -37,8 +37,8 @@ pub returns : goal.returns
 unfolding refusals_after_10 checks_from cap_of
 returns c =
     let force : c.force_of.result ≡ force_of (governing_of c.args.panel_counts c.args.column c.args.face) = c.force_of.ensures ∙ ap force_of c.governing_of-check.ensures.0 in
-    let cap-is : c.tension_cap-cap_case.result ≡ cap_case c.args.face.loads (force_of (governing_of c.args.panel_counts c.args.column c.args.face)) = c.tension_cap-cap_case.ensures ∙ ap (cap_case c.args.face.loads) force in
-    let newtons : let a = c.args in (over_compressed a.face.loads (force_of (governing_of a.panel_counts a.column a.face)) ≡ false) × (c.in-Newtons.cap ≡ newtons_of (cap_of a.panel_counts a.column a.face)) = within_cap _ _ _ (sym c.in-Newtons.is ∙ cap-is) in
+    let cap_is : c.tension_cap-cap_case.result ≡ cap_case c.args.face.loads (force_of (governing_of c.args.panel_counts c.args.column c.args.face)) = c.tension_cap-cap_case.ensures ∙ ap (cap_case c.args.face.loads) force in
+    let newtons : let a = c.args in (over_compressed a.face.loads (force_of (governing_of a.panel_counts a.column a.face)) ≡ false) × (c.in-Newtons.cap ≡ newtons_of (cap_of a.panel_counts a.column a.face)) = within_cap _ _ _ (sym c.in-Newtons.is ∙ cap_is) in
     let checked = c.governing_of-check.ensures.0 in
     let result = c.result_of.ensures _ (record { governs = checked; newtons = newtons.1 }) in
     (λ i. record { number = 0; field = 0; result = result i })

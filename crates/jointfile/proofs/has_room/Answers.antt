@@ -7,6 +7,18 @@ use lib.Dec.{leb}
 use Rattle.fields.specs.Fields.{field_count, own_count}
 use Rattle.jointfile.proofs.IfRoom.{size_most, numbers_size, numbers_fit}
 use Rattle.jointfile.proofs.has_room.Goals as goal
+use Rattle.jointfile.proofs.has_room.Goals.{After-stored_size-2, After-stored_size-3}
+
+two_sizes : (c : After-stored_size-2) → c.stored_size.result + c.stored_size-2.result ≤ 5 * (field_count + 8)
+two_sizes c =
+    let parts = c.requires in
+    omega (arith, size_most _ c.stored_size.ensures parts.few, size_most _ c.stored_size-2.ensures parts.rows)
+
+three_sizes : (c : After-stored_size-3) → c.stored_size.result + c.stored_size-2.result + c.stored_size-3.result ≤ 5 * (field_count + 8 + own_count)
+three_sizes c =
+    let two_sizes : c.stored_size.result + c.stored_size-2.result ≤ 5 * (field_count + 8) = let parts = c.requires in
+    omega (arith, size_most _ c.stored_size.ensures parts.few, size_most _ c.stored_size-2.ensures parts.rows) in
+    omega (arith, two_sizes, size_most _ c.stored_size-3.ensures c.requires.own_few)
 
 pub returns-then-fields-levers : goal.returns-then-fields-levers
 returns-then-fields-levers c =
@@ -15,23 +27,18 @@ returns-then-fields-levers c =
 
 pub overflow_add-result : goal.overflow_add-result
 overflow_add-result c =
-    let two_sizes : c.stored_size.result + c.stored_size-2.result ≤ 5 * (field_count + 8) = let parts = c.requires in
-    omega (arith, size_most _ c.stored_size.ensures parts.few, size_most _ c.stored_size-2.ensures parts.rows) in
-    omega (arith, two_sizes)
+    let here = goal.at.overflow_add-result c in
+    omega (arith, (two_sizes here.After-stored_size-2))
 
 pub overflow_add-result-2 : goal.overflow_add-result-2
 overflow_add-result-2 c =
-    let two_sizes : c.stored_size.result + c.stored_size-2.result ≤ 5 * (field_count + 8) = let parts = c.requires in
-    omega (arith, size_most _ c.stored_size.ensures parts.few, size_most _ c.stored_size-2.ensures parts.rows) in
-    let three-sizes : c.stored_size.result + c.stored_size-2.result + c.stored_size-3.result ≤ 5 * (field_count + 8 + own_count) = omega (arith, two_sizes, size_most _ c.stored_size-3.ensures c.requires.own_few) in
-    omega (arith, three-sizes)
+    let here = goal.at.overflow_add-result-2 c in
+    omega (arith, (three_sizes here.After-stored_size-3))
 
 pub overflow_add-result-3 : goal.overflow_add-result-3
 overflow_add-result-3 c =
-    let two_sizes : c.stored_size.result + c.stored_size-2.result ≤ 5 * (field_count + 8) = let parts = c.requires in
-    omega (arith, size_most _ c.stored_size.ensures parts.few, size_most _ c.stored_size-2.ensures parts.rows) in
-    let three-sizes : c.stored_size.result + c.stored_size-2.result + c.stored_size-3.result ≤ 5 * (field_count + 8 + own_count) = omega (arith, two_sizes, size_most _ c.stored_size-3.ensures c.requires.own_few) in
-    omega (arith, three-sizes, size_most _ c.stored_size-4.ensures c.requires.other_rows)
+    let here = goal.at.overflow_add-result-3 c in
+    omega (arith, (three_sizes here.After-stored_size-3), size_most _ c.stored_size-4.ensures c.requires.other_rows)
 
 pub returns : goal.returns
 returns c =

@@ -14,8 +14,8 @@ use Rattle.jointfile.proofs.read.Goals as goal
 
 pub slice_bounds-fields-end : goal.slice_bounds-fields-end
 slice_bounds-fields-end c =
-    let stored-known : Within (1 to field_count) c.stored_field_count-stored.result = rw c.stored_field_count-stored.ensures (stored_count c.args.kind) in
-    stored-known.high
+    let stored_known : Within (1 to field_count) c.stored_field_count-stored.result = rw c.stored_field_count-stored.ensures (stored_count c.args.kind) in
+    stored_known.high
 
 pub slice_bounds-read_part-end : goal.slice_bounds-read_part-end
 slice_bounds-read_part-end c = rw c.stored_field_count-stored.ensures (sym (lent_fields c.args.kind))

@@ -6,20 +6,20 @@ use Rattle.line.proofs.put_outcome.Goals as goal
 
 pub put_faces-requires : goal.put_faces-requires
 put_faces-requires c =
-    let faces-shown : let args = c.args in outcome_lines args.number args.rows args.other_rows args.outcome ≡ face_lines args.number args.rows args.other_rows args.outcome = outcome_faces _ _ _ _ c.if-refusal-eq0.true in
-    rw faces-shown at c.requires
+    let faces_shown : let args = c.args in outcome_lines args.number args.rows args.other_rows args.outcome ≡ face_lines args.number args.rows args.other_rows args.outcome = outcome_faces _ _ _ _ c.if-refusal-eq0.true in
+    rw faces_shown at c.requires
 
 pub returns-then-refusal-eq0 : goal.returns-then-refusal-eq0
 returns-then-refusal-eq0 c =
-    let faces-shown : let args = c.args in outcome_lines args.number args.rows args.other_rows args.outcome ≡ face_lines args.number args.rows args.other_rows args.outcome = outcome_faces _ _ _ _ c.if-refusal-eq0.true in
-    rw faces-shown c.put_faces.ensures
+    let faces_shown : let args = c.args in outcome_lines args.number args.rows args.other_rows args.outcome ≡ face_lines args.number args.rows args.other_rows args.outcome = outcome_faces _ _ _ _ c.if-refusal-eq0.true in
+    rw faces_shown c.put_faces.ensures
 
 pub put_work_refusal-requires : goal.put_work_refusal-requires
 put_work_refusal-requires c =
-    let refusal-shown : let args = c.args in concatenated (outcome_lines args.number args.rows args.other_rows args.outcome) ≡ refusal_line args.number (refusal_items args.outcome.refusal) = outcome_refusal _ _ _ _ c.if-refusal-eq0.false in
-    rw refusal-shown at c.requires
+    let refusal_shown : let args = c.args in concatenated (outcome_lines args.number args.rows args.other_rows args.outcome) ≡ refusal_line args.number (refusal_items args.outcome.refusal) = outcome_refusal _ _ _ _ c.if-refusal-eq0.false in
+    rw refusal_shown at c.requires
 
 pub returns : goal.returns
 returns c =
-    let refusal-shown : let args = c.args in concatenated (outcome_lines args.number args.rows args.other_rows args.outcome) ≡ refusal_line args.number (refusal_items args.outcome.refusal) = outcome_refusal _ _ _ _ c.if-refusal-eq0.false in
-    rw refusal-shown c.put_work_refusal.ensures
+    let refusal_shown : let args = c.args in concatenated (outcome_lines args.number args.rows args.other_rows args.outcome) ≡ refusal_line args.number (refusal_items args.outcome.refusal) = outcome_refusal _ _ _ _ c.if-refusal-eq0.false in
+    rw refusal_shown c.put_work_refusal.ensures

@@ -9,12 +9,20 @@ use Rattle.joint.proofs.Axial.{case_of, size_of_tension}
 use Rattle.panel.proofs.Totals.{raised_by_compression, raised_by_tension}
 use borrow.Author.Rules.{rules}
 use Rattle.panel.proofs.raised_total.Goals as goal
+use Rattle.panel.proofs.raised_total.Goals.{In-Tension}
+
+pulls : (c : In-Tension) → axial_force c.args.loads.axial ≡ Tension c.in-Tension.n
+pulls c =
+    case_of _ (search rules) _ _ c.axial_force-axial.ensures c.in-Tension.is
+
+pulls_with : (c : In-Tension) → c.in-Tension.n ≤ loads.high
+pulls_with c =
+    omega (arith, size_of_tension _ _ (pulls c), c.requires.1.axial)
 
 pub overflow_sub-result : goal.overflow_sub-result
 overflow_sub-result c =
-    let pulls : axial_force c.args.loads.axial ≡ Tension c.in-Tension.n = case_of _ (search rules) _ _ c.axial_force-axial.ensures c.in-Tension.is in
-    let pulls-with : c.in-Tension.n ≤ loads.high = omega (arith, size_of_tension _ _ pulls, c.requires.1.axial) in
-    omega (arith, pulls-with)
+    let here = goal.at.overflow_sub-result c in
+    omega (arith, (pulls_with here.In-Tension))
 
 pub returns-in-Compression : goal.returns-in-Compression
 returns-in-Compression c =
@@ -23,6 +31,5 @@ returns-in-Compression c =
 
 pub returns-in-Tension : goal.returns-in-Tension
 returns-in-Tension c =
-    let pulls : axial_force c.args.loads.axial ≡ Tension c.in-Tension.n = case_of _ (search rules) _ _ c.axial_force-axial.ensures c.in-Tension.is in
-    let pulls-with : c.in-Tension.n ≤ loads.high = omega (arith, size_of_tension _ _ pulls, c.requires.1.axial) in
-    raised_by_tension _ _ _ pulls pulls-with
+    let here = goal.at.returns-in-Tension c in
+    raised_by_tension _ _ _ (pulls here.In-Tension) (pulls_with here.In-Tension)

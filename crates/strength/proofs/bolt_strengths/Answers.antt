@@ -8,21 +8,28 @@ use Rattle.arithmetic.proofs.Bounds.{exactly, at_most, ◌⊗◌, fits}
 use Rattle.strength.specs.Bolt.{class_strengths, pair_tension, pair_shear}
 use Rattle.strength.proofs.Ranges.{tension_most, shear_most}
 use Rattle.strength.proofs.bolt_strengths.Goals as goal
+use Rattle.strength.proofs.bolt_strengths.Goals.{After-class_strengths-class}
+
+class_is : (c : After-class_strengths-class) → c.class_strengths-class.result ≡ class_strengths c.args.bolts.class
+class_is c =
+    c.class_strengths-class.ensures
+
+area_most : (c : After-class_strengths-class) → Within (0 to 4294967295) c.args.area
+area_most c =
+    at_most (omega arith)
 
 pub overflow_mul-result : goal.overflow_mul-result
 overflow_mul-result c =
-    let class-is : c.class_strengths-class.result ≡ class_strengths c.args.bolts.class = c.class_strengths-class.ensures in
-    let area_most : Within (0 to 4294967295) c.args.area = at_most (omega arith) in
-    rw class-is (fits (exactly 2 ⊗ area_most ⊗ tension_most _) tt)
+    let here = goal.at.overflow_mul-result c in
+    rw (class_is here.After-class_strengths-class) (fits (exactly 2 ⊗ (area_most here.After-class_strengths-class) ⊗ tension_most _) tt)
 
 pub overflow_mul-result-2 : goal.overflow_mul-result-2
 overflow_mul-result-2 c =
-    let class-is : c.class_strengths-class.result ≡ class_strengths c.args.bolts.class = c.class_strengths-class.ensures in
-    let area_most : Within (0 to 4294967295) c.args.area = at_most (omega arith) in
-    rw class-is (fits (exactly 2 ⊗ area_most ⊗ shear_most _) tt)
+    let here = goal.at.overflow_mul-result-2 c in
+    rw (class_is here.After-class_strengths-class) (fits (exactly 2 ⊗ (area_most here.After-class_strengths-class) ⊗ shear_most _) tt)
 
 pub returns : goal.returns
 unfolding pair_tension pair_shear
 returns c =
-    let class-is : c.class_strengths-class.result ≡ class_strengths c.args.bolts.class = c.class_strengths-class.ensures in
-    rw class-is
+    let here = goal.at.returns c in
+    rw (class_is here.After-class_strengths-class)

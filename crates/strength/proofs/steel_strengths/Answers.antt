@@ -5,7 +5,7 @@ use Rattle.strength.proofs.steel_strengths.Goals as goal
 
 pub returns : goal.returns
 returns c =
-    let of-plate = c.steel_strength-3.ensures in
-    let of-beam = c.steel_strength-2.ensures in
-    let of-column = c.steel_strength.ensures in
-    λ i. record { column = of-column i; beam = of-beam i; plate = of-plate i }
+    let of_plate = c.steel_strength-3.ensures in
+    let of_beam = c.steel_strength-2.ensures in
+    let of_column = c.steel_strength.ensures in
+    λ i. record { column = of_column i; beam = of_beam i; plate = of_plate i }

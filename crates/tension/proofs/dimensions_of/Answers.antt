@@ -8,49 +8,55 @@ use Rattle.tension.specs.Dimensions.{dimensions_of}
 use Rattle.tension.proofs.Sizes.{Sizes, sizes, column_parts, plate_parts, extension_figures}
 use Rattle.tension.proofs.Worked.{column_stub, plate_stub}
 use Rattle.tension.proofs.dimensions_of.Goals as goal
+use Rattle.tension.proofs.dimensions_of.Goals.{Start}
+
+sizes_at : (c : Start) → Sizes c.args.spacing c.args.steel
+sizes_at c =
+    sizes c.args.column c.args.face c.requires.0 c.args.spacing c.args.steel c.args.pair c.requires.1
 
 pub stub_of-requires : goal.stub_of-requires
 stub_of-requires c =
-    let sizes-at : Sizes c.args.spacing c.args.steel = sizes c.args.column c.args.face c.requires.0 c.args.spacing c.args.steel c.args.pair c.requires.1 in
+    let here = goal.at.stub_of-requires c in
     column_parts c.args.column c.args.face c.requires.0 c.args.spacing c.args.steel c.args.pair c.requires.1 _
-    (omega (arith, c.least-edge.ensures, sizes-at.column_edge.high, sizes-at.plate_edge.high))
+    (omega (arith, c.least-edge.ensures, (sizes_at here.Start).column_edge.high, (sizes_at here.Start).plate_edge.high))
 
 pub stub_of-requires-2 : goal.stub_of-requires-2
 stub_of-requires-2 c =
-    let sizes-at : Sizes c.args.spacing c.args.steel = sizes c.args.column c.args.face c.requires.0 c.args.spacing c.args.steel c.args.pair c.requires.1 in
+    let here = goal.at.stub_of-requires-2 c in
     plate_parts c.args.column c.args.face c.requires.0 c.args.spacing c.args.steel c.args.pair c.requires.1 _
-    (omega (arith, c.least-edge.ensures, sizes-at.column_edge.high, sizes-at.plate_edge.high))
+    (omega (arith, c.least-edge.ensures, (sizes_at here.Start).column_edge.high, (sizes_at here.Start).plate_edge.high))
 
 pub lengths_of-requires : goal.lengths_of-requires
 lengths_of-requires c =
-    let sizes-at : Sizes c.args.spacing c.args.steel = sizes c.args.column c.args.face c.requires.0 c.args.spacing c.args.steel c.args.pair c.requires.1 in
-    let z = sizes-at in (z.column, z.column_edge)
+    let here = goal.at.lengths_of-requires c in
+    let z = (sizes_at here.Start) in (z.column, z.column_edge)
 
 pub lengths_of-requires-2 : goal.lengths_of-requires-2
 lengths_of-requires-2 c =
-    let sizes-at : Sizes c.args.spacing c.args.steel = sizes c.args.column c.args.face c.requires.0 c.args.spacing c.args.steel c.args.pair c.requires.1 in
-    let z = sizes-at in (z.plate, z.plate_edge)
+    let here = goal.at.lengths_of-requires-2 c in
+    let z = (sizes_at here.Start) in (z.plate, z.plate_edge)
 
 pub times-requires : goal.times-requires
 times-requires c =
-    let sizes-at : Sizes c.args.spacing c.args.steel = sizes c.args.column c.args.face c.requires.0 c.args.spacing c.args.steel c.args.pair c.requires.1 in
-    (omega (arith, c.requires.0.face.layout.alpha.high), sizes-at.plate.high)
+    let here = goal.at.times-requires c in
+    (omega (arith, c.requires.0.face.layout.alpha.high), (sizes_at here.Start).plate.high)
 
 pub extension_limit-requires : goal.extension_limit-requires
-extension_limit-requires c = extension_figures c.args.column c.args.face c.requires.0 c.args.spacing c.args.steel c.args.pair c.requires.1
+extension_limit-requires c =
+    extension_figures c.args.column c.args.face c.requires.0 c.args.spacing c.args.steel c.args.pair c.requires.1
 
 pub times-requires-2 : goal.times-requires-2
 times-requires-2 c = (c.requires.0.face.layout.gauge.high, omega arith)
 
 pub times-requires-3 : goal.times-requires-3
 times-requires-3 c =
-    let sizes-at : Sizes c.args.spacing c.args.steel = sizes c.args.column c.args.face c.requires.0 c.args.spacing c.args.steel c.args.pair c.requires.1 in
-    (omega (arith, c.requires.0.column.web.high), omega (arith, sizes-at.strengths.column.high))
+    let here = goal.at.times-requires-3 c in
+    (omega (arith, c.requires.0.column.web.high), omega (arith, (sizes_at here.Start).strengths.column.high))
 
 pub times-requires-4 : goal.times-requires-4
 times-requires-4 c =
-    let sizes-at : Sizes c.args.spacing c.args.steel = sizes c.args.column c.args.face c.requires.0 c.args.spacing c.args.steel c.args.pair c.requires.1 in
-    (omega (arith, c.requires.0.face.beam.web.high), omega (arith, sizes-at.strengths.beam.high))
+    let here = goal.at.times-requires-4 c in
+    (omega (arith, c.requires.0.face.beam.web.high), omega (arith, (sizes_at here.Start).strengths.beam.high))
 
 pub returns : goal.returns
 unfolding dimensions_of

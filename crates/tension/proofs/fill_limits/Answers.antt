@@ -14,37 +14,54 @@ use Rattle.tension.specs.Admissible.{table_places}
 use Rattle.tension.proofs.Worked.{limit_small}
 use Rattle.tension.proofs.Filling.{start, next_inside, along, down, finish}
 use Rattle.tension.proofs.fill_limits.Goals as goal
+use Rattle.tension.proofs.fill_limits.Goals.{After-group_limit, In-loop-row}
+
+few : (c : In-loop-row) → c.args.rows ≤ row_counts.high
+few c =
+    c.requires.levers.rows
+
+inside : (c : In-loop-row) → c.loop-row.last < c.args.rows
+inside c =
+    c.loop-row.invariant.inside c.loop-row-test.true
+
+place_inside : (c : In-loop-row) → c.loop-row.next < table_places
+place_inside c =
+    next_inside _ _ (few c) _ _ _ _ _ c.loop-row.invariant c.loop-row-test.true
+
+is_limit : (c : After-group_limit) → (let l = c.loop-row in let a = c.args in c.group_limit.result ≡ limits_by a.d a.levers l.row l.last)
+is_limit c =
+    let l = c.loop-row in
+    let a = c.args in
+    let k : (l.last - l.row) + 1 ≡ suc l.last - l.row = omega (arith, l.invariant.group) in
+    c.group_limit.ensures ∙ ap (λ k. limit_by a.d l.row k (get_or a.levers l.row 0 - get_or a.levers l.last 0)) k
+
+is_small : (c : After-group_limit) → c.group_limit.result ≤ most_limit
+is_small c =
+    let inside : c.loop-row.last < c.args.rows = c.loop-row.invariant.inside c.loop-row-test.true in
+    let few : c.args.rows ≤ row_counts.high = c.requires.levers.rows in
+    let l = c.loop-row in
+    rw (is_limit c)
+    (le_trans (limit_small c.args.d l.row _ _ c.requires.dimensions (omega (arith, inside, few))) (lit≤ tt))
 
 pub loop-row-init : goal.loop-row-init
 loop-row-init c = start _ _ c.requires.levers.rows _ c.requires.size
 
 pub offset_bounds-levers-row : goal.offset_bounds-levers-row
-offset_bounds-levers-row c =
-    let few : c.args.rows ≤ row_counts.high = c.requires.levers.rows in
-    omega (arith, few, c.loop-row-test.true)
+offset_bounds-levers-row c = omega (arith, c.requires.levers.rows, c.loop-row-test.true)
 
 pub bounds-levers-row : goal.bounds-levers-row
-bounds-levers-row c =
-    let few : c.args.rows ≤ row_counts.high = c.requires.levers.rows in
-    omega (arith, few, c.loop-row-test.true)
+bounds-levers-row c = omega (arith, c.requires.levers.rows, c.loop-row-test.true)
 
 pub offset_bounds-levers-last : goal.offset_bounds-levers-last
-offset_bounds-levers-last c =
-    let inside : c.loop-row.last < c.args.rows = c.loop-row.invariant.inside c.loop-row-test.true in
-    let few : c.args.rows ≤ row_counts.high = c.requires.levers.rows in
-    omega (arith, inside, few)
+offset_bounds-levers-last c = omega (arith, c.loop-row.invariant.inside c.loop-row-test.true, c.requires.levers.rows)
 
 pub bounds-levers-last : goal.bounds-levers-last
-bounds-levers-last c =
-    let inside : c.loop-row.last < c.args.rows = c.loop-row.invariant.inside c.loop-row-test.true in
-    let few : c.args.rows ≤ row_counts.high = c.requires.levers.rows in
-    omega (arith, inside, few)
+bounds-levers-last c = omega (arith, c.loop-row.invariant.inside c.loop-row-test.true, c.requires.levers.rows)
 
 pub overflow_sub-rise : goal.overflow_sub-rise
 overflow_sub-rise c =
-    let inside : c.loop-row.last < c.args.rows = c.loop-row.invariant.inside c.loop-row-test.true in
     let l = c.loop-row in
-    c.requires.levers.fall l.row l.last l.invariant.group inside
+    c.requires.levers.fall l.row l.last l.invariant.group (inside c)
 
 pub overflow_cast-rise : goal.overflow_cast-rise
 overflow_cast-rise c = omega (arith, c.requires.levers.high c.loop-row.row c.loop-row-test.true)
@@ -53,88 +70,61 @@ pub overflow_sub-last : goal.overflow_sub-last
 overflow_sub-last c = c.loop-row.invariant.group
 
 pub overflow_add-last : goal.overflow_add-last
-overflow_add-last c =
-    let inside : c.loop-row.last < c.args.rows = c.loop-row.invariant.inside c.loop-row-test.true in
-    let few : c.args.rows ≤ row_counts.high = c.requires.levers.rows in
-    omega (arith, inside, few)
+overflow_add-last c = omega (arith, (inside c), (few c))
 
 pub group_limit-requires : goal.group_limit-requires
 group_limit-requires c =
-    let inside : c.loop-row.last < c.args.rows = c.loop-row.invariant.inside c.loop-row-test.true in
-    let few : c.args.rows ≤ row_counts.high = c.requires.levers.rows in
     record {
       dimensions = c.requires.dimensions;
-      rows = at_most (omega (arith, inside, few));
+      rows = at_most (omega (arith, (inside c), (few c)));
       rise = at_most (omega (arith, c.requires.levers.high c.loop-row.row c.loop-row-test.true));
     }
 
 pub offset_bounds-table-next : goal.offset_bounds-table-next
 offset_bounds-table-next c =
-    let few : c.args.rows ≤ row_counts.high = c.requires.levers.rows in
-    let place_inside : c.loop-row.next < table_places = next_inside _ _ few _ _ _ _ _ c.loop-row.invariant c.loop-row-test.true in
-    omega (arith, place_inside)
+    let here = goal.at.offset_bounds-table-next c in
+    omega (arith, (place_inside here.In-loop-row))
 
 pub bounds-table-next : goal.bounds-table-next
 bounds-table-next c =
-    let few : c.args.rows ≤ row_counts.high = c.requires.levers.rows in
-    let place_inside : c.loop-row.next < table_places = next_inside _ _ few _ _ _ _ _ c.loop-row.invariant c.loop-row-test.true in
-    place_inside
+    let here = goal.at.bounds-table-next c in
+    (place_inside here.In-loop-row)
 
 pub overflow_add-next : goal.overflow_add-next
 overflow_add-next c =
-    let few : c.args.rows ≤ row_counts.high = c.requires.levers.rows in
-    let place_inside : c.loop-row.next < table_places = next_inside _ _ few _ _ _ _ _ c.loop-row.invariant c.loop-row-test.true in
-    omega (arith, place_inside)
+    let here = goal.at.overflow_add-next c in
+    omega (arith, (place_inside here.In-loop-row))
 
 pub overflow_add-last-in-loop-row : goal.overflow_add-last-in-loop-row
 overflow_add-last-in-loop-row c =
-    let inside : c.loop-row.last < c.args.rows = c.loop-row.invariant.inside c.loop-row-test.true in
-    let few : c.args.rows ≤ row_counts.high = c.requires.levers.rows in
-    omega (arith, inside, few)
+    let here = goal.at.overflow_add-last-in-loop-row c in
+    omega (arith, (inside here.In-loop-row), (few here.In-loop-row))
 
 pub overflow_add-row : goal.overflow_add-row
 overflow_add-row c =
-    let few : c.args.rows ≤ row_counts.high = c.requires.levers.rows in
-    omega (arith, few, c.loop-row-test.true)
+    let here = goal.at.overflow_add-row c in
+    omega (arith, (few here.In-loop-row), c.loop-row-test.true)
 
 pub loop-row-smaller-then-last-rows : goal.loop-row-smaller-then-last-rows
 loop-row-smaller-then-last-rows c =
-    let few : c.args.rows ≤ row_counts.high = c.requires.levers.rows in
-    let inside : c.loop-row.last < c.args.rows = c.loop-row.invariant.inside c.loop-row-test.true in
-    omega (arith, few, c.loop-row.invariant.group, inside)
+    let here = goal.at.loop-row-smaller-then-last-rows c in
+    omega (arith, (few here.In-loop-row), c.loop-row.invariant.group, (inside here.In-loop-row))
 
 pub loop-row-preserved-then-last-rows : goal.loop-row-preserved-then-last-rows
 loop-row-preserved-then-last-rows c =
-    let few : c.args.rows ≤ row_counts.high = c.requires.levers.rows in
-    let is-limit : (let l = c.loop-row in let a = c.args in c.group_limit.result ≡ limits_by a.d a.levers l.row l.last) = let l = c.loop-row in
-    let a = c.args in
-    let k : (l.last - l.row) + 1 ≡ suc l.last - l.row = omega (arith, l.invariant.group) in
-    c.group_limit.ensures ∙ ap (λ k. limit_by a.d l.row k (get_or a.levers l.row 0 - get_or a.levers l.last 0)) k in
-    let inside : c.loop-row.last < c.args.rows = c.loop-row.invariant.inside c.loop-row-test.true in
-    let is-small : c.group_limit.result ≤ most_limit = let l = c.loop-row in
-    rw is-limit
-    (le_trans (limit_small c.args.d l.row _ _ c.requires.dimensions (omega (arith, inside, few))) (lit≤ tt)) in
-    down _ _ few _ _ _ _ _ c.loop-row.invariant c.loop-row-test.true _ is-limit is-small c.if-last-rows.true
+    let here = goal.at.loop-row-preserved-then-last-rows c in
+    down _ _ (few here.In-loop-row) _ _ _ _ _ c.loop-row.invariant c.loop-row-test.true _ (is_limit here.After-group_limit) (is_small here.After-group_limit) c.if-last-rows.true
 
 pub loop-row-smaller : goal.loop-row-smaller
 loop-row-smaller c =
-    let few : c.args.rows ≤ row_counts.high = c.requires.levers.rows in
-    let inside : c.loop-row.last < c.args.rows = c.loop-row.invariant.inside c.loop-row-test.true in
-    omega (arith, few, c.loop-row.invariant.group, inside)
+    let here = goal.at.loop-row-smaller c in
+    omega (arith, (few here.In-loop-row), c.loop-row.invariant.group, (inside here.In-loop-row))
 
 pub loop-row-preserved : goal.loop-row-preserved
 loop-row-preserved c =
-    let few : c.args.rows ≤ row_counts.high = c.requires.levers.rows in
-    let is-limit : (let l = c.loop-row in let a = c.args in c.group_limit.result ≡ limits_by a.d a.levers l.row l.last) = let l = c.loop-row in
-    let a = c.args in
-    let k : (l.last - l.row) + 1 ≡ suc l.last - l.row = omega (arith, l.invariant.group) in
-    c.group_limit.ensures ∙ ap (λ k. limit_by a.d l.row k (get_or a.levers l.row 0 - get_or a.levers l.last 0)) k in
-    let inside : c.loop-row.last < c.args.rows = c.loop-row.invariant.inside c.loop-row-test.true in
-    let is-small : c.group_limit.result ≤ most_limit = let l = c.loop-row in
-    rw is-limit
-    (le_trans (limit_small c.args.d l.row _ _ c.requires.dimensions (omega (arith, inside, few))) (lit≤ tt)) in
-    along _ _ few _ _ _ _ _ c.loop-row.invariant c.loop-row-test.true _ is-limit is-small
-    (omega (arith, c.if-last-rows.false, inside))
+    let here = goal.at.loop-row-preserved c in
+    along _ _ (few here.In-loop-row) _ _ _ _ _ c.loop-row.invariant c.loop-row-test.true _ (is_limit here.After-group_limit) (is_small here.After-group_limit)
+    (omega (arith, c.if-last-rows.false, (inside here.In-loop-row)))
 
 pub returns : goal.returns
 returns c = finish _ _ c.requires.levers.rows _ _ _ _ _ c.loop-row.invariant c.loop-row-test.false

@@ -21,21 +21,21 @@ overflow_add-sum c =
 
 pub overflow_cast-moment : goal.overflow_cast-moment
 overflow_cast-moment c =
-    let lever-le : get_or c.args.levers c.loop-row.row 0 ≤ most_lever = c.requires.lever_most c.loop-row.row in
-    omega (arith, lever-le)
+    let lever_le : get_or c.args.levers c.loop-row.row 0 ≤ most_lever = c.requires.lever_most c.loop-row.row in
+    omega (arith, lever_le)
 
 pub overflow_mul-moment : goal.overflow_mul-moment
 overflow_mul-moment c =
     let force_le : get_or c.args.forces c.loop-row.row 0 ≤ most_limit = c.requires.force_most c.loop-row.row in
-    let lever-le : get_or c.args.levers c.loop-row.row 0 ≤ most_lever = c.requires.lever_most c.loop-row.row in
-    let moment_le : get_or c.args.forces c.loop-row.row 0 * get_or c.args.levers c.loop-row.row 0 ≤ most_row_moment = row_moment_le _ _ force_le lever-le in
+    let lever_le : get_or c.args.levers c.loop-row.row 0 ≤ most_lever = c.requires.lever_most c.loop-row.row in
+    let moment_le : get_or c.args.forces c.loop-row.row 0 * get_or c.args.levers c.loop-row.row 0 ≤ most_row_moment = row_moment_le _ _ force_le lever_le in
     omega (arith, moment_le)
 
 pub overflow_add-moment : goal.overflow_add-moment
 overflow_add-moment c =
     let force_le : get_or c.args.forces c.loop-row.row 0 ≤ most_limit = c.requires.force_most c.loop-row.row in
-    let lever-le : get_or c.args.levers c.loop-row.row 0 ≤ most_lever = c.requires.lever_most c.loop-row.row in
-    let moment_le : get_or c.args.forces c.loop-row.row 0 * get_or c.args.levers c.loop-row.row 0 ≤ most_row_moment = row_moment_le _ _ force_le lever-le in
+    let lever_le : get_or c.args.levers c.loop-row.row 0 ≤ most_lever = c.requires.lever_most c.loop-row.row in
+    let moment_le : get_or c.args.forces c.loop-row.row 0 * get_or c.args.levers c.loop-row.row 0 ≤ most_row_moment = row_moment_le _ _ force_le lever_le in
     omega (arith, c.loop-row.invariant.1.moment_le, moment_le)
 
 pub overflow_add-pulling : goal.overflow_add-pulling
@@ -45,10 +45,10 @@ overflow_add-pulling c =
 
 pub loop-row-preserved : goal.loop-row-preserved
 loop-row-preserved c =
-    let lever-le : get_or c.args.levers c.loop-row.row 0 ≤ most_lever = c.requires.lever_most c.loop-row.row in
+    let lever_le : get_or c.args.levers c.loop-row.row 0 ≤ most_lever = c.requires.lever_most c.loop-row.row in
     let force_le : get_or c.args.forces c.loop-row.row 0 ≤ most_limit = c.requires.force_most c.loop-row.row in (
       omega arith,
-      one_more _ _ _ _ _ _ (omega arith) (omega arith) lever-le force_le _ c.force_count-pulling.ensures c.loop-row.invariant.1,
+      one_more _ _ _ _ _ _ (omega arith) (omega arith) lever_le force_le _ c.force_count-pulling.ensures c.loop-row.invariant.1,
     )
 
 pub returns : goal.returns

@@ -15,13 +15,13 @@ work_faces-requires c = c.requires
 
 pub returns-then-is_two_faced : goal.returns-then-is_two_faced
 returns-then-is_two_faced c =
-    let two-faced : two_faced c.args.joint.face.rows ≡ true = sym c.is_two_faced.ensures ∙ c.if-is_two_faced.true in
+    let both : two_faced c.args.joint.face.rows ≡ true = sym c.is_two_faced.ensures ∙ c.if-is_two_faced.true in
     let j = c.args.joint in
     let area = c.args.area in
     let first = c.first_face.ensures in record {
       equals = c.work_faces.ensures.equals ∙ ap (λ (face : Face). worked_faces j.column j.bolts area face j.other) first
-          ∙ of_two area j two-faced;
-      demand = (λ none. demand_both area j _ two-faced
+          ∙ of_two area j both;
+      demand = (λ none. demand_both area j _ both
           (subst (λ (face : Face). FacesDemand3 j.column j.bolts area face j.other c.work_faces.result) first
           (c.work_faces.ensures.demand none)));
     }

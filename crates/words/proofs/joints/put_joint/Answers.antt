@@ -13,13 +13,13 @@ use Rattle.words.specs.Words.{first_word_count, head_of}
 use Rattle.words.proofs.Copies.{copied_after}
 use Rattle.words.proofs.joints.put_joint.Goals as goal
 
-head-length : (column : Column) (bolts : Bolts) (face : Face) → length (head_of column bolts face) ≡ field_count
+head_length : (column : Column) (bolts : Bolts) (face : Face) → length (head_of column bolts face) ≡ field_count
 unfolding head_of fields_of
-head-length column bolts face = refl
+head_length column bolts face = refl
 
-own-length : (column : Column) (bolts : Bolts) (face : Face) → length (own_of (head_of column bolts face)) ≡ own_count
+own_length : (column : Column) (bolts : Bolts) (face : Face) → length (own_of (head_of column bolts face)) ≡ own_count
 unfolding own_of
-own-length column bolts face = refl
+own_length column bolts face = refl
 
 pub returns : goal.returns
 returns c =
@@ -35,5 +35,5 @@ returns c =
     ∙ ap (λ (o : List ℕ). sets c.put_face.new.words first_word_count (o ++ joint.other.levers)) own_is
     ∙ ap (λ (slice : List ℕ). sets slice first_word_count (own ++ joint.other.levers)) put
     ∙ copied_after words (head ++ joint.face.levers) (own ++ joint.other.levers)
-    (rw length-append (omega (arith, head-length joint.column joint.bolts joint.face, c.put_face.ensures.1)))
-    (rw length-append (omega (arith, own-length joint.column joint.bolts joint.other, c.put_face-2.ensures.1, c.requires)))
+    (rw length-append (omega (arith, head_length joint.column joint.bolts joint.face, c.put_face.ensures.1)))
+    (rw length-append (omega (arith, own_length joint.column joint.bolts joint.other, c.put_face-2.ensures.1, c.requires)))
