@@ -1,3 +1,4 @@
--- What it is to put bytes into a lent buffer.
+-- What it is to put bytes into a lent buffer (`Put`), and by a writer (`Writing`).
 -- Assumes nothing.
 pub mod Put
+pub mod Writing
