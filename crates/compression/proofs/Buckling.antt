@@ -3,6 +3,7 @@
 use mathlib.Core.Path.{◌≡◌, refl, sym, ap, ◌∙◌}
 use mathlib.Core.Bool.{Bool, true, false, cond}
 use Prim.Native.Nat.{ℕ, ◌*◌, ◌/◌, ◌^◌, ◌≤◌, ◌<◌, zero-le}
+use Rattle.std.proofs.Common.{Some, None, unwrap_or}
 use native.Mathlib.Nat.{mul-zero, mul_assoc, one-mul, pow-suc, pow-zero, mul-le-mul, mul-le-mul_left}
 use native.Mathlib.Omega.{arith}
 use lib.Dec.{eqb}
@@ -13,9 +14,7 @@ use Rattle.arithmetic.proofs.Bounds.{exactly, ◌⊗◌}
 use Rattle.arithmetic.proofs.Greatest.{only_one, is_greatest, greatest_below, unscaled}
 use Rattle.joint.specs.Ranges.{webs}
 use Rattle.joint.specs.declared.Column.{Column}
-use Rattle.compression.specs.Root.{square_root, root_case, root_meaning}
-use Rattle.compression.specs.declared.root.Root.{Root}
-use Rattle.compression.specs.declared.root.Root.TheVariants.{Zero, Positive}
+use Rattle.compression.specs.Root.{square_root, root_case}
 use Rattle.strength.specs.InRange.{yield_strengths}
 use Rattle.compression.specs.Compression.{IsWebBuckling, buckling_limit, web_buckling}
 use Rattle.compression.specs.InRange.{bearing_lengths, ColumnWebParts}
@@ -37,22 +36,22 @@ unfolding web_buckling
 buckling_small b yc column = greatest_below 32 (λ (w : ℕ). 16 * column.clear * (w * w)) (buckling_limit b yc column)
 
 -- the root of a case is the root
-case_root : (x : ℕ) → root_meaning (root_case x) ≡ square_root x
+case_root : (x : ℕ) → unwrap_or (root_case x) 0 ≡ square_root x
 unfolding root_case
 case_root x = either (eqb x 0) refl
   where
-    either : (zero : Bool) → eqb x 0 ≡ zero → root_meaning (cond zero Zero (Positive (square_root x))) ≡ square_root x
+    either : (zero : Bool) → eqb x 0 ≡ zero → unwrap_or (cond zero None (Some (square_root x))) 0 ≡ square_root x
     either true e = sym (ap square_root (eqb-true x 0 e) ∙ root_of_zero)
     either false e = refl
 
 module _ (b yc : ℕ) (column : Column) (r : ColumnWebParts b yc column) where
   -- the root of the limit over 16×dc, as the code works it
-  pub buckling_root : (found : Root)
-      → found ≡ root_case (275 * b * yc * (column.web * column.web) * (column.web * column.web) / (16 * column.clear))
-      → root_meaning found ≡ web_buckling b yc column
+  pub buckling_root :
+      unwrap_or (root_case (275 * b * yc * (column.web * column.web) * (column.web * column.web) / (16 * column.clear))) 0
+      ≡ web_buckling b yc column
   unfolding square_root web_buckling buckling_limit
-  buckling_root found e =
-      ap root_meaning e ∙ case_root _
+  buckling_root =
+      case_root _
       ∙ ap (λ (limit : ℕ). square_root (limit / (16 * column.clear))) (fourth (275 * b * yc) column.web)
       ∙ unscaled 32 (λ (w : ℕ). w * w) (buckling_limit b yc column) (16 * column.clear) (omega (arith, r.column.clear.low))
 

@@ -12,7 +12,6 @@ ghost use Rattle.compression.specs.InRange.{PartsInRange, LengthParts, ColumnWeb
 mod root;
 
 use joint::{Beam, Column, Plate, Welds};
-use root::Root;
 use strength::SteelStrengths;
 
 // The four resistances of the compression side, in newtons.
@@ -83,11 +82,7 @@ fn web_buckling(length: u64, strength: u64, column: Column) -> u64
     let web = column.web as u64;
     let squared = web * web;
     let limit = 275 * length * strength * squared * squared;
-    let found = root::square_root(limit / (16 * (column.clear as u64)));
-    match found {
-        Root::Positive(force) => force,
-        Root::Zero => 0,
-    }
+    root::square_root(limit / (16 * (column.clear as u64))).unwrap_or(0)
 }
 
 // A buckling force, reduced near an end of the column. z and 0.7×dc are compared ten times as large, so that neither is rounded.

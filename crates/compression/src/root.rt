@@ -2,26 +2,19 @@
 ghost use Rattle.std.specs.Prelude.{◌≡◌};
 ghost use Rattle.compression.specs.Root.{root_case, Guess};
 
-// The root of 0 is a case of its own.
-#[derive(Clone, Copy)]
-pub enum Root {
-    Zero,
-    Positive(u64),
-}
-
-// The greatest r with r * r at most x. A guess that isn't below the root stays so, and falls until it is the root. It is below 2^32, so
-// its square fits.
-pub fn square_root(x: u64) -> Root
+// The greatest r with r * r at most x, or none for 0, which has a case of its own. A guess that isn't below the root stays so, and falls
+// until it is the root. It is below 2^32, so its square fits.
+pub fn square_root(x: u64) -> Option<u64>
     ensures { result ≡ root_case x }
 {
     if x == 0 {
-        return Root::Zero;
+        return None;
     }
     let mut r = first_guess(x);
     while x < r * r {
         r = (r + x / r) / 2;
     }
-    Root::Positive(r)
+    Some(r)
 }
 
 // Newton's step from 2 to the power of half the length of x in bits, rounded down. That power may be below the root; a step from it

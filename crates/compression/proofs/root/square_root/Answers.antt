@@ -2,12 +2,12 @@
 -- square fits a word. The measure is the guess, which falls.
 -- Assumes nothing.
 use mathlib.Core.Path.{ap}
+use Rattle.std.proofs.Common.{Some}
 use Prim.Native.Nat.{◌-◌, ◌^◌}
 use native.Mathlib.Omega.{arith}
 use borrow.Author.Tests.{ne_eqb}
 use Rattle.arithmetic.proofs.Bounds.{◌⊗◌, at_most, fits}
 use Rattle.compression.specs.Root.{root_case}
-use Rattle.compression.specs.declared.root.Root.TheVariants.{Positive}
 use Rattle.compression.proofs.root.Newton.{quotient-lt, next-guess, is-root}
 use Rattle.compression.proofs.root.square_root.Goals as goal
 
@@ -38,4 +38,4 @@ returns c =
     let x = c.args.x in
     let r = c.loop-r.r in
     rw (ne_eqb x 0 c.if-x-eq0.false)
-    (ap Positive (is-root x c.ranges.x.fits r c.loop-r-test.false c.loop-r.invariant.above))
+    (ap Some (is-root x c.ranges.x.fits r c.loop-r-test.false c.loop-r.invariant.above))
