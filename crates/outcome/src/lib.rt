@@ -1,6 +1,9 @@
 // What working a joint comes to: between Work, which makes it, and the sheet, which prints it.
 #![tactic(auto)]
 
+ghost use Rattle.std.specs.Prelude.{◌≡◌};
+ghost use Rattle.outcome.specs.Outcome.{number_of, field_of_refusal, face_number};
+
 use governing::CompressionCheck;
 
 // Whether a face passes each check.
@@ -12,18 +15,7 @@ pub struct Verdicts {
     pub web_weld: bool,
 }
 
-// What a joint was refused for.
-#[derive(Clone, Copy)]
-pub struct Refusal {
-    // the refusal's number, 0 when nothing is refused
-    pub number: u32,
-    // the first field out of range, with refusal 10; else 0
-    pub field: u32,
-    // 1 or 2, the face of a joint that has two; else 0
-    pub face: u32,
-}
-
-// What one face of the column comes to. In a refusal the figures are 0, the check is Flange with 0, and the verdicts are no.
+// What one face of the column comes to.
 #[derive(Clone, Copy)]
 pub struct FaceResult {
     // newtons, row 1 first; 0 past the last row
@@ -38,32 +30,99 @@ pub struct FaceResult {
     pub verdicts: Verdicts,
 }
 
-// What one face comes to where it is worked alone.
+// What a face is refused for.
+#[derive(Clone, Copy, PartialEq, Eq, Debug)]
+pub enum FaceRefusal {
+    // the number of the first field out of range
+    OutOfRange(u32),
+    LeversDontFall,
+    RowsTooClose,
+    RowOutOfPlace,
+    TooTight,
+    TooThick,
+    // N is above the governing force
+    NoCap,
+}
+
+impl FaceRefusal {
+    pub fn number(self) -> u32
+        ensures { result ≡ number_of self }
+    {
+        match self {
+            FaceRefusal::OutOfRange(_) => 10,
+            FaceRefusal::LeversDontFall => 11,
+            FaceRefusal::RowsTooClose => 19,
+            FaceRefusal::RowOutOfPlace => 12,
+            FaceRefusal::TooTight => 13,
+            FaceRefusal::TooThick => 14,
+            FaceRefusal::NoCap => 15,
+        }
+    }
+
+    // The first field out of range, with refusal 10; else 0.
+    pub fn field(self) -> u32
+        ensures { result ≡ field_of_refusal self }
+    {
+        match self {
+            FaceRefusal::OutOfRange(field) => field,
+            _ => 0,
+        }
+    }
+}
+
+// Which of a joint's faces is refused: its only one, or one of two.
+#[derive(Clone, Copy, PartialEq, Eq, Debug)]
+pub enum RefusedFace {
+    Only,
+    First,
+    Second,
+}
+
+// What a joint is refused for.
+#[derive(Clone, Copy, PartialEq, Eq, Debug)]
+pub struct JointRefusal {
+    pub refusal: FaceRefusal,
+    pub face: RefusedFace,
+}
+
+impl JointRefusal {
+    pub fn number(self) -> u32
+        ensures { result ≡ number_of self.refusal }
+    {
+        self.refusal.number()
+    }
+
+    // The first field out of range, with refusal 10; else 0.
+    pub fn field(self) -> u32
+        ensures { result ≡ field_of_refusal self.refusal }
+    {
+        self.refusal.field()
+    }
+
+    // 1 or 2, the face of a joint that has two; else 0.
+    pub fn face(self) -> u32
+        ensures { result ≡ face_number self.face }
+    {
+        match self.face {
+            RefusedFace::Only => 0,
+            RefusedFace::First => 1,
+            RefusedFace::Second => 2,
+        }
+    }
+}
+
+// What the second face of a joint comes to, and whether the web panel between the faces carries what they bring to it.
 #[derive(Clone, Copy)]
-pub struct FaceOutcome {
-    // the refusal's number, 0 when nothing is refused
-    pub number: u32,
-    // the first field out of range, with refusal 10; else 0
-    pub field: u32,
+pub struct SecondFace {
     pub result: FaceResult,
+    pub panel_passes: bool,
 }
 
-// Whether the web panel of a column with a beam on both faces carries what they bring to it.
+// What a joint comes to.
 #[derive(Clone, Copy)]
-pub enum PanelVerdict {
-    // there is one face, and panel shear is in its cap; or the joint is refused
-    NotAsked,
-    Passes,
-    Fails,
-}
-
-// What Work answers.
-#[derive(Clone, Copy)]
-pub struct Outcome {
-    pub refusal: Refusal,
+pub struct Worked {
     // of the first face
     pub result: FaceResult,
-    // of the second; as in a refusal where there is none
-    pub other: FaceResult,
-    pub panel: PanelVerdict,
+    // None of a joint with one face: panel shear is in its cap
+    pub second: Option<SecondFace>,
 }
