@@ -1,31 +1,50 @@
 -- The two cases of the cap: which way refusal 15 goes, that a cap which isn't below 0 is its newtons, and how large those are. Assumes
 -- nothing.
-use mathlib.Core.Path.{◌≡◌, refl}
+use mathlib.Core.Path.{◌≡◌, refl, ap}
 use mathlib.Core.Bool.{Bool, true, false, cond}
 use Prim.Native.Nat.{ℕ, zero, suc, ◌+◌, ◌-◌, ◌≤◌}
+use Rattle.std.proofs.Common.{Some, None}
+use Rattle.std.proofs.lemmas.Int.{ints}
 use native.Mathlib.Omega.{arith}
 use lib.Dec.{ltb}
 use lib.IntN.{ℤ, pos, negsuc, nat_abs, ◌-ℤ◌}
-use lib.Signed.{lt_z}
+use lib.Signed.{lt_z, ◌<ℤ◌, ◌≤ℤ◌}
 use Rattle.joint.specs.declared.Loads.{Loads}
 use Rattle.governing.specs.Cap.{tension_cap, over_compressed, newtons_of}
 use Rattle.governing.specs.Answers.{cap_case}
-use Rattle.governing.specs.declared.Cap.TheVariants.{Newtons, Exceeded}
 
-pub exceeded : (loads : Loads) (force : ℕ) → Exceeded ≡ cap_case loads force → over_compressed loads force ≡ true
+-- the answer by the sign of the governing force less N
+pub below_zero : (loads : Loads) (force : ℕ) → (pos force -ℤ loads.axial) <ℤ pos 0 → None ≡ cap_case loads force
+unfolding cap_case over_compressed
+below_zero loads force h =
+    let over : lt_z (pos force) loads.axial ≡ true = grind (arith, ints) in
+    rw over
+
+pub not_below_zero : (loads : Loads) (force : ℕ) → pos 0 ≤ℤ (pos force -ℤ loads.axial)
+    → Some (nat_abs (pos force -ℤ loads.axial)) ≡ cap_case loads force
+unfolding cap_case over_compressed tension_cap
+not_below_zero loads force h =
+    let within : lt_z (pos force) loads.axial ≡ false = grind (arith, ints) in
+    rw within (ap Some (size (pos force -ℤ loads.axial) h))
+  where
+    size : (cap : ℤ) → pos 0 ≤ℤ cap → nat_abs cap ≡ newtons_of cap
+    size (pos n) k = refl
+    size (negsuc n) k = absurd (omega (arith, ints))
+
+pub exceeded : (loads : Loads) (force : ℕ) → None ≡ cap_case loads force → over_compressed loads force ≡ true
 unfolding cap_case
 exceeded loads force e = by_test (over_compressed loads force) e
   where
-    by_test : (over : Bool) → Exceeded ≡ cond over Exceeded (Newtons (newtons_of (tension_cap loads force))) → over ≡ true
+    by_test : (over : Bool) → None ≡ cond over None (Some (newtons_of (tension_cap loads force))) → over ≡ true
     by_test true h = refl
     by_test false h = let never : ◌≡◌ {A = ℕ} 0 1 = cc in absurd (omega arith)
 
-pub within_cap : (loads : Loads) (force cap : ℕ) → Newtons cap ≡ cap_case loads force
+pub within_cap : (loads : Loads) (force cap : ℕ) → Some cap ≡ cap_case loads force
     → (over_compressed loads force ≡ false) × (cap ≡ newtons_of (tension_cap loads force))
 unfolding cap_case
 within_cap loads force cap e = by_test (over_compressed loads force) e
   where
-    by_test : (over : Bool) → Newtons cap ≡ cond over Exceeded (Newtons (newtons_of (tension_cap loads force)))
+    by_test : (over : Bool) → Some cap ≡ cond over None (Some (newtons_of (tension_cap loads force)))
         → (over ≡ false) × (cap ≡ newtons_of (tension_cap loads force))
     by_test true h = let never : ◌≡◌ {A = ℕ} 0 1 = cc in absurd (omega arith)
     by_test false h = (refl, cc)

@@ -1,4 +1,3 @@
 -- How large the governing force is, and the cap by the sign of N.
 pub mod Least
-pub mod CapBySign
 pub mod Cases

@@ -1,26 +1,15 @@
--- `tension_cap` meets its contract: the cap's cases by the sign of N (the laws of `CapBySign`). Assumes nothing.
-use mathlib.Core.Path.{◌≡◌}
-use Rattle.joint.specs.Axial.{axial_force}
-use Rattle.joint.proofs.Axial.{case_of}
-use Rattle.joint.specs.declared.AxialForce.TheVariants.{Compression, Tension}
-use Rattle.governing.proofs.CapBySign.{cap_exceeded, cap_in_compression, cap_in_tension}
-use borrow.Author.Rules.{rules}
+-- `tension_cap` meets its contract: in whole numbers of 64 bits with a sign the governing force less N is itself (the laws of `Cases`).
+-- Assumes nothing.
+use Rattle.std.proofs.Common.{◌≡◌, arith, w32, w64, pos, ◌-ℤ◌, to_z, of_z}
+use Rattle.std.proofs.lemmas.Int.{ints}
+use Rattle.governing.proofs.Cases.{below_zero, not_below_zero}
 use Rattle.governing.proofs.tension_cap.Goals as goal
 
-pub returns-then-force-n : goal.returns-then-force-n
-returns-then-force-n c =
-    let pushes : axial_force c.args.loads.axial ≡ Compression c.in-Compression.n = case_of _ (search rules) _ _ c.axial_force-axial.ensures c.in-Compression.is in
-    let a = c.args in
-    cap_exceeded a.loads a.force _ pushes c.if-force-n.true
+pub returns-then-cap-lt0 : goal.returns-then-cap-lt0
+returns-then-cap-lt0 c = below_zero c.args.loads c.args.force (omega (arith, ints, c.requires.1.axial))
 
-pub returns-else-force-n : goal.returns-else-force-n
-returns-else-force-n c =
-    let pushes : axial_force c.args.loads.axial ≡ Compression c.in-Compression.n = case_of _ (search rules) _ _ c.axial_force-axial.ensures c.in-Compression.is in
+pub returns : goal.returns
+returns c =
     let a = c.args in
-    cap_in_compression a.loads a.force _ pushes c.if-force-n.false
-
-pub returns-in-Tension : goal.returns-in-Tension
-returns-in-Tension c =
-    let pulls : axial_force c.args.loads.axial ≡ Tension c.in-Tension.n = case_of _ (search rules) _ _ c.axial_force-axial.ensures c.in-Tension.is in
-    let a = c.args in
-    cap_in_tension a.loads a.force _ pulls
+    let same : to_z w64 (of_z w64 (to_z w64 a.force -ℤ to_z w64 (of_z w64 (to_z w32 (of_z w32 a.loads.axial))))) ≡ pos a.force -ℤ a.loads.axial = omega (arith, ints, c.requires.1.axial) in
+    rw same (not_below_zero a.loads a.force (omega (arith, ints, c.requires.1.axial)))
