@@ -1,7 +1,6 @@
--- What the verdict relies on, and what its steps hand on: nothing here states a rule. Assumes nothing.
-use Rattle.std.specs.Prelude.{◌≡◌, ℕ, ◌<◌, ◌^◌, ℤ, pos, ◌+ℤ◌}
+-- What the verdict relies on: nothing here states a rule. Assumes nothing.
+use Rattle.std.specs.Prelude.{ℕ, ◌<◌, ◌^◌}
 use Rattle.joint.specs.InRange.{LoadsInRange}
-use Rattle.joint.specs.Ranges.{loads}
 use Rattle.joint.specs.declared.Loads.{Loads}
 
 pub record PanelAsked (first-sum : ℕ) (first : Loads) (second-sum : ℕ) (second : Loads) : Type 0 where
@@ -9,7 +8,3 @@ pub record PanelAsked (first-sum : ℕ) (first : Loads) (second-sum : ℕ) (seco
   pub first_loads : LoadsInRange first
   pub second_small : second-sum < 2 ^ 32
   pub second_loads : LoadsInRange second
-
--- a total raised by the greatest N
-abbrev pub Raised : (total : ℤ) (raised : ℕ) → Type 0
-Raised total raised = pos raised ≡ total +ℤ pos loads.high
