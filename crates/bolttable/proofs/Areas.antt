@@ -2,6 +2,7 @@
 use mathlib.Core.Path.{◌≡◌, refl}
 use mathlib.Core.Bool.{Bool, true, false, cond}
 use mathlib.Core.List.{List, [], ◌∷◌}
+use Rattle.std.specs.Prelude.{Some, None}
 use Prim.Native.Nat.{ℕ, ◌≤◌, zero-le}
 use native.Mathlib.Nat.{le_trans}
 use native.Mathlib.Omega.{arith}
@@ -12,18 +13,15 @@ use Rattle.arithmetic.specs.Range.{Within, within}
 use Rattle.arithmetic.proofs.Bounds.{exactly, at_most, ◌⊗◌, ◌⊘◌, within_yes}
 use Rattle.arithmetic.proofs.Checks.{all_hold}
 use Rattle.bolttable.specs.Loading.{Size, bolt_diameters, bolt_areas, size_counts, counted_sizes, each_size, size_in_range}
-use Rattle.bolttable.specs.Loading.{diameters_rise, area_fits, table_refusals, table_check}
+use Rattle.bolttable.specs.Loading.{diameters_rise, area_fits, table_refusals, table_check, TableCheck, Taken, Refused}
 use Rattle.bolttable.specs.Area.{sizes_by, area_among, area_of}
 use Rattle.bolttable.specs.InRange.{AreaInRange, most_area}
 use Rattle.bolttable.specs.declared.BoltTable.{BoltTable}
-use Rattle.bolttable.specs.declared.BoltArea.TheVariants.{Listed, Unlisted}
-use Rattle.bolttable.specs.declared.TableCheck.{TableCheck}
-use Rattle.bolttable.specs.declared.TableCheck.TheVariants.{Taken, Refused}
 
 -- ---- a table that is refused has no sizes, and one that is taken those that it counts
 
 module _ (table : BoltTable) (diameter : ℕ) where
-  pub if_refused : {number : ℕ} → table_check table ≡ Refused number → Unlisted ≡ area_of table diameter
+  pub if_refused : {number : ℕ} → table_check table ≡ Refused number → None ≡ area_of table diameter
   unfolding area_of area_among
   if_refused e = rw e
 
@@ -75,7 +73,7 @@ among_in_range diameter (size ∷ sizes) in_range fits =
   where
     by_test : (same : Bool) → eqb diameter size.diameter ≡ same → T (size_in_range size) → T (area_fits size)
         → AreaInRange diameter (area_among diameter sizes)
-        → AreaInRange diameter (cond same (Listed size.area) (area_among diameter sizes))
+        → AreaInRange diameter (cond same (Some size.area) (area_among diameter sizes))
     by_test true e own fit rest = record {
       listed = λ yes. rw (eqb-true diameter size.diameter e) (size_ranges size own).0;
       most = at_most (area_small size own fit);

@@ -9,21 +9,20 @@ use lib.Dec.{T, ltb}
 use mir.Facts.{and_yes}
 use Rattle.arithmetic.specs.Checks.{first_failing}
 use Rattle.arithmetic.specs.Range.{within}
-use Rattle.bolttable.specs.Loading.{Size, sizes_in, size_counts, each_size, size_in_range, rise_above, diameters_rise, area_fits}
-use Rattle.bolttable.specs.Loading.{table_refusals, table_check}
+use Rattle.bolttable.specs.Loading.{Size, size_counts, counted_sizes, each_size, size_in_range, rise_above, diameters_rise, area_fits}
+use Rattle.bolttable.specs.Loading.{table_refusals, table_check, Taken, Refused}
+use Rattle.bolttable.specs.declared.BoltTable.{BoltTable}
 use Rattle.bolttable.specs.Steps.{below_least, sizes_check}
-use Rattle.bolttable.specs.declared.TableCheck.TheVariants.{Taken, Refused}
 use Rattle.bolttable.proofs.Areas.{size_ranges}
 
 -- ---- a table by its count
 
-module _ (count : ℕ) (diameters areas : List ℕ) where
-  pub by_count : within size_counts count ≡ false → Refused 16 ≡ table_check (record { count = count; diameters = diameters; areas = areas })
+module _ (table : BoltTable) where
+  pub by_count : within size_counts table.count ≡ false → Refused 16 ≡ table_check table
   unfolding table_check table_refusals first_failing
   by_count bad = rw bad
 
-  pub by_sizes : within size_counts count ≡ true
-      → sizes_check (sizes_in count diameters areas) ≡ table_check (record { count = count; diameters = diameters; areas = areas })
+  pub by_sizes : within size_counts table.count ≡ true → sizes_check (counted_sizes table) ≡ table_check table
   unfolding sizes_check table_check table_refusals first_failing
   by_sizes good = rw good
 

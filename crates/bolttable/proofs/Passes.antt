@@ -3,28 +3,23 @@
 use mathlib.Core.Path.{◌≡◌, refl, sym, ap, subst, ◌∙◌}
 use mathlib.Core.Bool.{Bool, true, false, cond, ◌&&◌}
 use mathlib.Core.List.{List, [], ◌∷◌}
-use Prim.Native.Nat.{ℕ, ◌+◌, ◌*◌, ◌≤◌, ◌<◌}
+use Rattle.std.specs.Prelude.{Option, Some, None}
+use Prim.Native.Nat.{ℕ, ◌*◌, ◌≤◌, ◌<◌}
 use native.Mathlib.Nat.{le-div_iff_mul-le}
 use native.Mathlib.Omega.{arith}
 use borrow.Author.Tests.{ne_eqb, eqb-true}
 use lib.Dec.{T, eqb, leb, ltb, leb→le, le→leb, ltb→lt, lt→ltb}
-use lib.ListN.{length, get_or, drop}
 use mir.Facts.{and_yes, yes_and}
 use Rattle.arithmetic.specs.Checks.{first_failing}
 use Rattle.arithmetic.specs.Range.{Within, within}
 use Rattle.arithmetic.proofs.Bounds.{exactly, ◌⊗◌}
-use Rattle.bolttable.specs.Loading.{Size, bolt_diameters, bolt_areas, size_counts, sizes_in, counted_sizes, each_size, size_in_range}
-use Rattle.bolttable.specs.Loading.{rise_above, area_fits, table_refusals, table_check}
+use Rattle.bolttable.specs.Loading.{Size, bolt_diameters, bolt_areas, size_counts, counted_sizes, each_size, size_in_range}
+use Rattle.bolttable.specs.Loading.{rise_above, area_fits, table_refusals, table_check, TableCheck, Taken, Refused}
 use Rattle.bolttable.specs.Area.{area_among, area_of}
 use Rattle.bolttable.specs.Steps.{below_least, may_follow, area_passed}
 use Rattle.bolttable.specs.declared.BoltTable.{BoltTable}
-use Rattle.bolttable.specs.declared.BoltArea.{BoltArea}
-use Rattle.bolttable.specs.declared.BoltArea.TheVariants.{Listed, Unlisted}
-use Rattle.bolttable.specs.declared.TableCheck.{TableCheck}
-use Rattle.bolttable.specs.declared.TableCheck.TheVariants.{Taken, Refused}
 use Rattle.bolttable.proofs.Areas.{size_ranges, if_refused, if_taken, sizes_in_range, areas_fit, sizes_rise}
 use Rattle.bolttable.proofs.Checks.{from_first}
-use Rattle.bolttable.proofs.Sizes.{size_at, sizes_from, sizes_end}
 
 -- ---- a size that may follow
 
@@ -124,19 +119,19 @@ yes false t = absurd t
 
 module _ (diameter : ℕ) where
   -- nothing where some size may not follow
-  broken : (last found : ℕ) (sizes : List Size) → chain last sizes ≡ false → area_passed diameter last found sizes ≡ Unlisted
+  broken : (last found : ℕ) (sizes : List Size) → chain last sizes ≡ false → area_passed diameter last found sizes ≡ None
   unfolding area_passed chain
   broken last found [] e = let never : ◌≡◌ {A = ℕ} 0 1 = cc in absurd (omega arith)
   broken last found (size ∷ sizes) e = go (may_follow last size) e (broken size.diameter _ sizes)
     where
-      go : (may : Bool) → (may && chain size.diameter sizes) ≡ false → {rest : BoltArea}
-          → (chain size.diameter sizes ≡ false → rest ≡ Unlisted) → cond may rest Unlisted ≡ Unlisted
+      go : (may : Bool) → (may && chain size.diameter sizes) ≡ false → {rest : Option ℕ}
+          → (chain size.diameter sizes ≡ false → rest ≡ None) → cond may rest None ≡ None
       go true e others = others e
       go false e others = refl
 
   -- an area that was found before stays, since every diameter left is greater
   kept : (last found : ℕ) (sizes : List Size) → T (chain last sizes) → 0 < found → diameter ≤ last
-      → area_passed diameter last found sizes ≡ Listed found
+      → area_passed diameter last found sizes ≡ Some found
   unfolding area_passed chain
   kept last found [] t some past = rw (ne_eqb found 0 (omega arith))
   kept last found (size ∷ sizes) t some past =
@@ -158,10 +153,10 @@ module _ (diameter : ℕ) where
       (found_first size.diameter sizes both.1))
     where
       go : (same : Bool) → eqb diameter size.diameter ≡ same
-          → (diameter ≡ size.diameter → area_passed diameter size.diameter size.area sizes ≡ Listed size.area)
+          → (diameter ≡ size.diameter → area_passed diameter size.diameter size.area sizes ≡ Some size.area)
           → area_passed diameter size.diameter 0 sizes ≡ area_among diameter sizes
           → area_passed diameter size.diameter (cond same size.area 0) sizes
-          ≡ cond same (Listed size.area) (area_among diameter sizes)
+          ≡ cond same (Some size.area) (area_among diameter sizes)
       go true e here others = here (eqb-true diameter size.diameter e)
       go false e here others = others
 
@@ -194,7 +189,7 @@ module _ (table : BoltTable) (counted : within size_counts table.count ≡ true)
   passed diameter = by_chain (chain below_least (counted_sizes table)) refl
     where
       by_check : (check : TableCheck) → table_check table ≡ check → chain below_least (counted_sizes table) ≡ false
-          → Unlisted ≡ area_of table diameter
+          → None ≡ area_of table diameter
       by_check Taken e no-chain = absurd (subst (λ (b : Bool). T b) no-chain (taken_chain e))
       by_check (Refused number) e no-chain = if_refused table diameter e
 
@@ -206,31 +201,24 @@ module _ (table : BoltTable) (counted : within size_counts table.count ≡ true)
       by_chain false e = broken diameter below_least 0 (counted_sizes table) e ∙ by_check (table_check table) refl e
 
 -- a table whose count is out of range lists nothing
-pub uncounted : (table : BoltTable) (diameter : ℕ) → within size_counts table.count ≡ false → Unlisted ≡ area_of table diameter
+pub uncounted : (table : BoltTable) (diameter : ℕ) → within size_counts table.count ≡ false → None ≡ area_of table diameter
 unfolding table_check table_refusals first_failing
 uncounted table diameter bad = if_refused table diameter {number = 16} (rw bad)
 
 -- ---- one size after another
 
-module _ (diameter count : ℕ) (diameters areas : List ℕ) where
-  -- what the pass finds from a place on
-  abbrev pub left : (last found place : ℕ) → BoltArea
-  left last found place = area_passed diameter last found (drop place (sizes_in count diameters areas))
-
-  module _ (h : count ≤ length diameters) (k : count ≤ length areas) where
-    pub stops : (last found place : ℕ) → place < count → may_follow last (size_at diameters areas place) ≡ false
-        → left last found place ≡ Unlisted
+module _ (diameter last found : ℕ) {sizes : List Size} where
+  module _ {size : Size} {rest : List Size} (left : sizes ≡ size ∷ rest) where
+    pub stops : may_follow last size ≡ false → area_passed diameter last found sizes ≡ None
     unfolding area_passed
-    stops last found place inside e =
-        ap (area_passed diameter last found) (sizes_from count diameters areas h k place inside) ∙ (rw e)
+    stops e = ap (area_passed diameter last found) left ∙ (rw e)
 
-    pub goes_on : (last found place : ℕ) → place < count → may_follow last (size_at diameters areas place) ≡ true
-        → left last found place
-        ≡ left (get_or diameters place 0) (cond (eqb diameter (get_or diameters place 0)) (get_or areas place 0) found) (place + 1)
+    pub goes_on : may_follow last size ≡ true
+        → area_passed diameter last found sizes
+        ≡ area_passed diameter size.diameter (cond (eqb diameter size.diameter) size.area found) rest
     unfolding area_passed
-    goes_on last found place inside e =
-        ap (area_passed diameter last found) (sizes_from count diameters areas h k place inside) ∙ (rw e)
+    goes_on e = ap (area_passed diameter last found) left ∙ (rw e)
 
-    pub none_left : (last found place : ℕ) → count ≤ place → left last found place ≡ cond (eqb found 0) Unlisted (Listed found)
-    unfolding area_passed
-    none_left last found place past = ap (area_passed diameter last found) (sizes_end count diameters areas h k place past)
+  pub none_left : sizes ≡ [] → area_passed diameter last found sizes ≡ cond (eqb found 0) None (Some found)
+  unfolding area_passed
+  none_left end = ap (area_passed diameter last found) end

@@ -1,11 +1,10 @@
 -- Bolt tables (rule 3.7): the sizes that one counts, what loading it answers, and the table built in (rule 3.2). Assumes nothing.
-use Rattle.std.specs.Prelude.{ℕ, zero, suc, ◌*◌, ◌/◌, Bool, true, ◌&&◌, List, [], ◌∷◌, leb, ltb}
+use Rattle.std.specs.Prelude.{ℕ, zero, suc, ◌*◌, ◌/◌, Bool, true, ◌&&◌, List, [], ◌∷◌, Result, Ok, Err, leb, ltb}
 use Rattle.arithmetic.specs.Checks.{Check, first_failing}
 use Rattle.arithmetic.specs.Range.{Range, within, ◌to◌}
 use Rattle.bolttable.specs.declared.BoltTable.{BoltTable}
-use Rattle.bolttable.specs.declared.TableCheck.{TableCheck}
-use Rattle.bolttable.specs.declared.TableCheck.TheVariants.{Taken, Refused}
-use Rattle.bolttable.specs.declared.Loading.{Loading}
+use Rattle.bolttable.specs.declared.TableRefusal.{TableRefusal}
+use Rattle.bolttable.specs.declared.TableRefusal.TheVariants.{OutOfRange, DiametersDontRise, AreaTooLarge}
 
 -- a table has so many sizes
 abbrev pub size_counts : Range
@@ -72,10 +71,33 @@ table_refusals table =
     ∷ (18, each_size area_fits sizes)
     ∷ []
 
--- whether a table is taken, or by which number it is refused
+-- whether a table is taken, or the number that it is refused by
+pub data TableCheck : Type 0 where
+  Taken : TableCheck
+  Refused : (number : ℕ) → TableCheck
+
+-- the numbers of the refusals that the code names
+abbrev pub number_of : TableRefusal → ℕ
+number_of OutOfRange = 16
+number_of DiametersDontRise = 17
+number_of AreaTooLarge = 18
+
+abbrev pub check_meaning : Result (Unit {0}) TableRefusal → TableCheck
+check_meaning (Ok done) = Taken
+check_meaning (Err refusal) = Refused (number_of refusal)
+
 unfoldable pub table_check : BoltTable → TableCheck
 unfolding table_refusals
 table_check table = first_failing Taken Refused (table_refusals table)
+
+-- what loading a table answers: the refusal's number, 0 when the table is taken, and the table that is then in force
+pub record Loading : Type 0 where
+  pub refusal : ℕ
+  pub table : BoltTable
+
+abbrev pub loading_meaning : Result (Unit {0}) TableRefusal → (in_force : BoltTable) → Loading
+loading_meaning (Ok done) in_force = record { refusal = 0; table = in_force }
+loading_meaning (Err refusal) in_force = record { refusal = number_of refusal; table = in_force }
 
 -- rule 3.7: a table that is taken is then in force, and one that isn't leaves the one before; 0 is no refusal
 abbrev pub loaded_by : TableCheck → (before table : BoltTable) → Loading

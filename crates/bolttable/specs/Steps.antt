@@ -1,17 +1,17 @@
 -- A table tested in one pass over its sizes: for loading, by which number it is refused; for Work, with the area that it lists. No rule
 -- stands here. Assumes nothing.
-use Rattle.std.specs.Prelude.{◌≡◌, ℕ, ◌-◌, ◌*◌, Bool, cond, ◌&&◌, List, [], ◌∷◌, leb, ltb, eqb, length}
+use Rattle.std.specs.Prelude.{◌≡◌, ℕ, ◌-◌, ◌*◌, Bool, cond, ◌&&◌, List, [], ◌∷◌, Option, Some, None, leb, ltb, eqb, length}
 use Rattle.arithmetic.specs.Checks.{first_failing}
-use Rattle.bolttable.specs.Loading.{Size, size_counts, bolt_diameters, each_size, size_in_range, diameters_rise, area_fits}
-use Rattle.bolttable.specs.declared.BoltArea.{BoltArea}
-use Rattle.bolttable.specs.declared.BoltArea.TheVariants.{Listed, Unlisted}
-use Rattle.bolttable.specs.declared.TableCheck.{TableCheck}
-use Rattle.bolttable.specs.declared.TableCheck.TheVariants.{Taken, Refused}
+use Rattle.bolttable.specs.Loading.{Size, sizes_in, size_counts, bolt_diameters, each_size, size_in_range, diameters_rise, area_fits, TableCheck, Taken, Refused}
 
 -- a table's twelve places, lent
 pub record Places (diameters areas : List ℕ) : Type 0 where
   pub diameter_places : length diameters ≡ size_counts.high
   pub area_places : length areas ≡ size_counts.high
+
+-- the sizes of places that are all counted
+abbrev pub all_sizes : (diameters areas : List ℕ) → List Size
+all_sizes diameters areas = sizes_in (length diameters) diameters areas
 
 -- what the first diameter is held to be above
 abbrev pub below_least : ℕ
@@ -30,9 +30,9 @@ may_follow last size =
     && (leb 1 size.area && leb (100 * size.area) (785 * size.diameter * size.diameter))
 
 -- the area of the size with the diameter, where `found` is that of the sizes before, 0 as long as there was none
-unfoldable pub area_passed : (diameter last found : ℕ) → List Size → BoltArea
-area_passed diameter last found [] = cond (eqb found 0) Unlisted (Listed found)
+unfoldable pub area_passed : (diameter last found : ℕ) → List Size → Option ℕ
+area_passed diameter last found [] = cond (eqb found 0) None (Some found)
 area_passed diameter last found (size ∷ sizes) =
     cond (may_follow last size)
     (area_passed diameter size.diameter (cond (eqb diameter size.diameter) size.area found) sizes)
-    Unlisted
+    None

@@ -2,13 +2,11 @@
 // diameter: everything after that goes by figures.
 #![tactic(auto)]
 
-ghost use Rattle.std.specs.Prelude.{◌≡◌, ◌≤◌, length};
+ghost use Rattle.std.specs.Prelude.{◌≡◌};
 ghost use Rattle.arithmetic.specs.Range.{within};
-ghost use Rattle.bolttable.specs.Loading.{size_counts, sizes_in, size_in_range, table_check, loaded, built_in};
-ghost use Rattle.bolttable.specs.Area.{area_of, is_listed, area_number};
-ghost use Rattle.bolttable.specs.Steps.{Places, below_least, sizes_check, may_follow, area_passed};
-
-use arithmetic::chosen;
+ghost use Rattle.bolttable.specs.Loading.{number_of, size_counts, size_in_range, check_meaning, table_check, loading_meaning, loaded, built_in};
+ghost use Rattle.bolttable.specs.Area.{area_of};
+ghost use Rattle.bolttable.specs.Steps.{Places, below_least, all_sizes, sizes_check, may_follow, area_passed};
 
 // The places of a table.
 pub const PLACES: usize = 12;
@@ -27,27 +25,25 @@ pub struct BoltTable {
     pub areas: [u32; PLACES],
 }
 
-// Whether a table is taken, or the number that it is refused by: 16, 17 or 18.
-#[derive(Clone, Copy)]
-pub enum TableCheck {
-    Taken,
-    Refused(u32),
+// Why a table is not taken, the first reason in the order of the rules.
+#[derive(Clone, Copy, PartialEq, Eq, Debug)]
+pub enum TableRefusal {
+    // the count, or a number of a size that it counts
+    OutOfRange,
+    DiametersDontRise,
+    AreaTooLarge,
 }
 
-// What loading a table answers.
-#[derive(Clone, Copy)]
-pub struct Loading {
-    // the refusal's number, 0 when the table is taken
-    pub refusal: u32,
-    // the table that is then in force
-    pub table: BoltTable,
-}
-
-// What a table lists for a diameter: the area of that size, in tenths of mm², or that it has no such size.
-#[derive(Clone, Copy)]
-pub enum BoltArea {
-    Listed(u32),
-    Unlisted,
+impl TableRefusal {
+    pub fn number(self) -> u32
+        ensures { result ≡ number_of self }
+    {
+        match self {
+            TableRefusal::OutOfRange => 16,
+            TableRefusal::DiametersDontRise => 17,
+            TableRefusal::AreaTooLarge => 18,
+        }
+    }
 }
 
 // The five sizes built in.
@@ -62,103 +58,51 @@ pub fn built_in() -> BoltTable
 }
 
 // Loads a table: it is then in force, or, where it isn't taken, the one before.
-pub fn load(before: BoltTable, table: BoltTable) -> Loading
-    ensures { result ≡ loaded before table }
+pub fn load(in_force: &mut BoltTable, table: BoltTable) -> Result<(), TableRefusal>
+    ensures { loading_meaning result in_force.new ≡ loaded in_force.old table }
 {
-    let diameters = table.diameters;
-    let areas = table.areas;
-    let check = check_arrays(table.count, diameters, areas);
-    match check {
-        TableCheck::Taken => Loading { refusal: 0, table },
-        TableCheck::Refused(number) => Loading {
-            refusal: number,
-            table: before,
-        },
-    }
+    check_table(&table)?;
+    *in_force = table;
+    Ok(())
 }
 
-// The area that a table lists for a diameter.
-pub fn area_of(table: BoltTable, diameter: u32) -> BoltArea
+// The area that a table lists for a diameter, in tenths of mm².
+pub fn area_of(table: BoltTable, diameter: u32) -> Option<u32>
     ensures { result ≡ area_of table diameter }
 {
-    let diameters = table.diameters;
-    let areas = table.areas;
-    area_in_arrays(table.count, diameters, areas, diameter)
-}
-
-pub fn is_listed(area: BoltArea) -> bool
-    ensures { result ≡ is_listed area }
-{
-    match area {
-        BoltArea::Listed(_) => true,
-        BoltArea::Unlisted => false,
-    }
-}
-
-// A, in tenths of mm²; 0 where the table has no such size.
-pub fn area_number(area: BoltArea) -> u32
-    ensures { result ≡ area_number area }
-{
-    match area {
-        BoltArea::Listed(tenths) => tenths,
-        BoltArea::Unlisted => 0,
-    }
-}
-
-// How many places an array has is known where it is a parameter, and not where it is a field: so `load` and `area_of` each have a function
-// between them and the places that they lend.
-fn check_arrays(count: u32, diameters: [u32; PLACES], areas: [u32; PLACES]) -> TableCheck
-    ensures { result ≡ table_check (record { count = count; diameters = diameters; areas = areas }) }
-{
-    check_table(count, &diameters, &areas)
-}
-
-fn area_in_arrays(
-    count: u32,
-    diameters: [u32; PLACES],
-    areas: [u32; PLACES],
-    diameter: u32,
-) -> BoltArea
-    ensures { result ≡ area_of (record { count = count; diameters = diameters; areas = areas }) diameter }
-{
-    area_in(count, &diameters, &areas, diameter)
+    area_in(table.count, &table.diameters, &table.areas, diameter)
 }
 
 // The area that a table lists for a diameter, its places lent. Open for `words`, which lends twelve of each.
-pub fn area_in(count: u32, diameters: &[u32], areas: &[u32], diameter: u32) -> BoltArea
+pub fn area_in(count: u32, diameters: &[u32], areas: &[u32], diameter: u32) -> Option<u32>
     requires { Places diameters.now areas.now }
     ensures { result
         ≡ area_of (record { count = count; diameters = diameters.now; areas = areas.now }) diameter }
 {
     if !is_size_count(count) {
-        return BoltArea::Unlisted;
+        return None;
     }
-    area_among(count as usize, diameters, areas, diameter)
+    let count = count as usize;
+    area_among(&diameters[..count], &areas[..count], diameter)
 }
 
 // The area of the size with the diameter. Work asks for it each time, so the sizes are tested and searched in one pass, which doesn't tell
-// by which number a table is refused. `chosen` keeps a match without a jump: which size it is can't be foreseen.
-fn area_among(count: usize, diameters: &[u32], areas: &[u32], diameter: u32) -> BoltArea
-    requires { (count ≤ length diameters.now) × (count ≤ length areas.now) }
-    ensures { result ≡ area_passed diameter below_least 0 (sizes_in count diameters.now areas.now) }
+// by which number a table is refused.
+fn area_among(diameters: &[u32], areas: &[u32], diameter: u32) -> Option<u32>
+    ensures { result ≡ area_passed diameter below_least 0 (all_sizes diameters.now areas.now) }
 {
     let mut found = 0;
     let mut last = BELOW_LEAST;
-    let mut place = 0;
-    while place < count {
-        let next = diameters[place];
-        let area = areas[place];
-        if !may_follow(last, next, area) {
-            return BoltArea::Unlisted;
+    for (next, area) in diameters.iter().zip(areas) {
+        if !may_follow(last, *next, *area) {
+            return None;
         }
-        found = chosen(diameter == next, area, found);
-        last = next;
-        place += 1;
+        if diameter == *next {
+            found = *area;
+        }
+        last = *next;
     }
-    if found == 0 {
-        return BoltArea::Unlisted;
-    }
-    BoltArea::Listed(found)
+    if found == 0 { None } else { Some(found) }
 }
 
 // Whether a size may come after one with the diameter `last`, or after none. That a diameter is 6 or more and an area at most 40000 needs no
@@ -173,16 +117,15 @@ fn may_follow(last: u32, diameter: u32, area: u32) -> bool
     (1 <= area) & (100 * (area as u64) <= 785 * across * across)
 }
 
-// Whether a table is taken, or the first number that it is refused by.
-fn check_table(count: u32, diameters: &[u32], areas: &[u32]) -> TableCheck
-    requires { Places diameters.now areas.now }
-    ensures { result
-        ≡ table_check (record { count = count; diameters = diameters.now; areas = areas.now }) }
+// Whether a table is taken, or why it isn't.
+fn check_table(table: &BoltTable) -> Result<(), TableRefusal>
+    ensures { check_meaning result ≡ table_check table.now }
 {
-    if !is_size_count(count) {
-        return TableCheck::Refused(16);
+    if !is_size_count(table.count) {
+        return Err(TableRefusal::OutOfRange);
     }
-    check_sizes(count as usize, diameters, areas)
+    let counted = table.count as usize;
+    check_sizes(&table.diameters[..counted], &table.areas[..counted])
 }
 
 fn is_size_count(count: u32) -> bool
@@ -191,34 +134,29 @@ fn is_size_count(count: u32) -> bool
     (1 <= count) & (count <= 12)
 }
 
-// 16 comes first over all sizes, so a number out of range decides there and then. Whether diameters rise and areas fit is told after the
-// last size.
-fn check_sizes(count: usize, diameters: &[u32], areas: &[u32]) -> TableCheck
-    requires { (count ≤ length diameters.now) × (count ≤ length areas.now) }
-    ensures { result ≡ sizes_check (sizes_in count diameters.now areas.now) }
+// That a number is out of range comes first over all sizes, so it decides there and then. Whether diameters rise and areas fit is told
+// after the last size.
+fn check_sizes(diameters: &[u32], areas: &[u32]) -> Result<(), TableRefusal>
+    ensures { check_meaning result ≡ sizes_check (all_sizes diameters.now areas.now) }
 {
     let mut rise = true;
     let mut fit = true;
     let mut last = BELOW_LEAST;
-    let mut place = 0;
-    while place < count {
-        let diameter = diameters[place];
-        let area = areas[place];
-        if !is_in_range(diameter, area) {
-            return TableCheck::Refused(16);
+    for (diameter, area) in diameters.iter().zip(areas) {
+        if !is_in_range(*diameter, *area) {
+            return Err(TableRefusal::OutOfRange);
         }
-        rise = rise & (last < diameter);
-        fit = fit & (area <= 785 * diameter * diameter / 100);
-        last = diameter;
-        place += 1;
+        rise = rise & (last < *diameter);
+        fit = fit & (*area <= 785 * *diameter * *diameter / 100);
+        last = *diameter;
     }
     if !rise {
-        return TableCheck::Refused(17);
+        return Err(TableRefusal::DiametersDontRise);
     }
     if !fit {
-        return TableCheck::Refused(18);
+        return Err(TableRefusal::AreaTooLarge);
     }
-    TableCheck::Taken
+    Ok(())
 }
 
 fn is_in_range(diameter: u32, area: u32) -> bool

@@ -1,12 +1,10 @@
--- What each turn of a loop keeps, and why the loop or the recursion ends.
-use Prim.Native.Nat.{◌-◌}
-use lib.ListN.{drop}
-use Rattle.bolttable.specs.Loading.{sizes_in}
+-- What each turn of the loop keeps.
+use lib.ListN.{length, drop}
+use Rattle.bolttable.specs.Steps.{all_sizes}
 use Rattle.bolttable.proofs.Checks.{Passed}
 use Rattle.bolttable.proofs.check_sizes.Given as goal
 
-abbrev pub invariant-loop-place : goal.invariant-loop-place
-invariant-loop-place l = Passed (sizes_in l.count l.diameters l.areas) (drop l.place (sizes_in l.count l.diameters l.areas)) l.last l.rise l.fit
-
-abbrev pub decreases-loop-place : goal.decreases-loop-place
-decreases-loop-place l = l.count - l.place
+abbrev pub invariant-loop-diameter : goal.invariant-loop-diameter
+invariant-loop-diameter l =
+    let sizes = all_sizes l.diameters l.areas in
+    Passed sizes (drop (length l.yielded) sizes) l.last l.rise l.fit

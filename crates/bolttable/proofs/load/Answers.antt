@@ -1,12 +1,12 @@
 -- `load` meets its contract: which table is then in force goes by the check. Assumes nothing.
-use mathlib.Core.Path.{sym, ◌∙◌}
+use Rattle.std.proofs.Common.{rules}
 use Rattle.bolttable.specs.Loading.{loaded}
 use Rattle.bolttable.proofs.load.Goals as goal
 
-pub returns-in-Taken : goal.returns-in-Taken
+pub returns-in_err-check_table : goal.returns-in_err-check_table
 unfolding loaded
-returns-in-Taken c = rw (sym c.check_arrays-check.ensures ∙ c.in-Taken.is)
+returns-in_err-check_table c = rw (← c.in_err-check_table.ensures) (search rules)
 
-pub returns-in-Refused : goal.returns-in-Refused
+pub returns : goal.returns
 unfolding loaded
-returns-in-Refused c = rw (sym c.check_arrays-check.ensures ∙ c.in-Refused.is)
+returns c = rw (← c.in_ok-check_table.ensures)
