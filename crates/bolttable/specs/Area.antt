@@ -1,5 +1,5 @@
 -- Rule 3.8: what Work has of the table that it is handed, the area of the joint's bolts. Assumes nothing.
-use Rattle.std.specs.Prelude.{ℕ, Bool, true, false, cond, List, [], ◌∷◌, Option, Some, None, eqb}
+use Rattle.std.specs.Prelude.{ℕ, Bool, cond, List, [], ◌∷◌, Option, Some, None, is_some, unwrap_or, eqb}
 use Rattle.bolttable.specs.Loading.{Size, counted_sizes, TableCheck, Taken, Refused, table_check}
 use Rattle.bolttable.specs.declared.BoltTable.{BoltTable}
 
@@ -23,10 +23,8 @@ area_of table diameter = area_among diameter (sizes_of table)
 
 -- whether the diameter is one of the table's sizes
 abbrev pub is_listed : Option ℕ → Bool
-is_listed (Some area) = true
-is_listed None = false
+is_listed area = is_some area
 
 -- A, in tenths of mm²; 0 where there is none
 abbrev pub area_number : Option ℕ → ℕ
-area_number (Some area) = area
-area_number None = 0
+area_number area = unwrap_or area 0

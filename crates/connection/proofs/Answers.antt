@@ -1,5 +1,6 @@
 -- What the refusals leave: from an answer that is no refusal, that every test of the list holds, and from those tests what the limits
 -- rely on. Assumes nothing.
+use Rattle.std.specs.Prelude.{Option}
 use mathlib.Core.Path.{◌≡◌, refl, sym, ap, ◌∙◌}
 use mathlib.Core.Bool.{Bool, true, false, ◌&&◌, ◌||◌}
 use Prim.Native.Nat.{ℕ, suc}
@@ -9,7 +10,6 @@ use lib.Dec.{ltb}
 use borrow.Author.Tests.{ltb-false, eq-eqb, not-true}
 use Rattle.arithmetic.specs.Checks.{first_failing, checks_before}
 use Rattle.arithmetic.proofs.Checks.{numbered, positive, numbered_holds}
-use Rattle.bolttable.specs.declared.BoltArea.{BoltArea}
 use Rattle.joint.specs.Ranges.{row_counts}
 use Rattle.joint.specs.Fields.{field_check}
 use Rattle.joint.specs.InRange.{ColumnInRange, FaceInRange, InRange}
@@ -85,7 +85,7 @@ not_refused panel_counts column bolt face answer e none =
     (refusals_after_10 panel_counts column bolt face) tt e
 
 -- where a connection is not refused its fields are in range, and the answer is the face's
-pub in_range_of : (panel_counts : Bool) (column : Column) (bolts : Bolts) (area : BoltArea) (face : Face) (answer : FaceOutcome)
+pub in_range_of : (panel_counts : Bool) (column : Column) (bolts : Bolts) (area : Option ℕ) (face : Face) (answer : FaceOutcome)
     → worked_connection panel_counts column bolts area face ≡ answer → answer.number ≡ 0
     → InRange column bolts area face × (worked_face panel_counts column (bolt_of bolts area) face ≡ answer)
 unfolding worked_connection

@@ -1,6 +1,7 @@
 -- Demand 3 of the definition: a face that isn't refused has it. Its forces are shared under the limits with the cap among them, so they
 -- are the best of the lists that keep both (the theorems of `sharing`), and a larger moment carries what a smaller one does.
 -- Assumes nothing.
+use Rattle.std.specs.Prelude.{Option}
 use mathlib.Core.Path.{◌≡◌, sym, ap, ◌∙◌}
 use mathlib.Core.Bool.{Bool}
 use Prim.Native.Nat.{ℕ, suc, ◌≤◌}
@@ -12,7 +13,6 @@ use lib.Dec.{leb→le, le→leb}
 use lib.IntN.{pos}
 use borrow.Author.Tests.{not-true}
 use Rattle.arithmetic.proofs.Checks.{numbered}
-use Rattle.bolttable.specs.declared.BoltArea.{BoltArea}
 use Rattle.joint.specs.Ranges.{row_counts}
 use Rattle.joint.specs.declared.Bolts.{Bolts}
 use Rattle.joint.specs.declared.Column.{Column}
@@ -116,7 +116,7 @@ of_face panel_counts column bolt face c f eight answer e none =
     rw (sym all.1) (demand panel_counts column bolt face a eight (cap_newtons _ _ (not-true _ (all.0 15))))
 
 -- Demand 3: for every connection whose answer is no refusal. A face in the machine has eight levers.
-pub worked_demand : (panel_counts : Bool) (column : Column) (bolts : Bolts) (area : BoltArea) (face : Face)
+pub worked_demand : (panel_counts : Bool) (column : Column) (bolts : Bolts) (area : Option ℕ) (face : Face)
     → length face.levers ≡ row_counts.high
     → (answer : FaceOutcome) → worked_connection panel_counts column bolts area face ≡ answer → answer.number ≡ 0
     → Demand3For panel_counts column bolts area face answer.result

@@ -1,9 +1,9 @@
 -- The sum of a face's forces is at most its cap, and so is small enough for what is reckoned with it. Assumes nothing.
+use Rattle.std.specs.Prelude.{Option, ℕ}
 use mathlib.Core.Path.{◌≡◌, sym, ap}
 use mathlib.Core.Bool.{Bool}
 use Prim.Native.Nat.{◌+◌, ◌^◌, ◌≤◌, ◌<◌}
 use native.Mathlib.Omega.{arith}
-use Rattle.bolttable.specs.declared.BoltArea.{BoltArea}
 use Rattle.joint.specs.InRange.{ColumnInRange, FaceInRange, InRange}
 use Rattle.joint.specs.Ranges.{loads}
 use Rattle.joint.specs.declared.Bolts.{Bolts}
@@ -46,7 +46,7 @@ module _ (panel_counts : Bool) (column : Column) (face : Face) where
       omega (arith, cap_le face.loads (force_of (governing_of panel_counts column face)), force_le c f, f.loads.axial.high)
 
 -- what is known of a connection that isn't refused: its fields are in range, and the sum of its forces is small
-pub taken : (panel_counts : Bool) (column : Column) (bolts : Bolts) (area : BoltArea) (face : Face) (answer : FaceOutcome)
+pub taken : (panel_counts : Bool) (column : Column) (bolts : Bolts) (area : Option ℕ) (face : Face) (answer : FaceOutcome)
     → worked_connection panel_counts column bolts area face ≡ answer → answer.number ≡ 0
     → InRange column bolts area face × (answer.result.sum < 2 ^ 32)
 unfolding result_of

@@ -1,7 +1,6 @@
 -- Working one face (rules 11): the refusals in their order, and else the whole result. Assumes nothing.
-use Rattle.std.specs.Prelude.{ℕ, Bool, false, not, List, [], ◌∷◌, replicate}
+use Rattle.std.specs.Prelude.{ℕ, Bool, false, not, List, [], ◌∷◌, replicate, Option}
 use Rattle.arithmetic.specs.Checks.{Check, first_failing}
-use Rattle.bolttable.specs.declared.BoltArea.{BoltArea}
 use Rattle.joint.specs.Ranges.{row_counts}
 use Rattle.joint.specs.Fields.{field_check}
 use Rattle.joint.specs.declared.Bolts.{Bolts}
@@ -83,7 +82,7 @@ worked_by AllInRange outcome = outcome
 worked_by (Outside field) outcome = refused_face 10 field
 
 -- A connection: one face, whatever its fields are, on the column with its bolts and the area that the table in force lists for them.
-unfoldable pub worked_connection : (panel_counts : Bool) → Column → Bolts → BoltArea → Face → FaceOutcome
+unfoldable pub worked_connection : (panel_counts : Bool) → Column → Bolts → Option ℕ → Face → FaceOutcome
 unfolding worked_face
 worked_connection panel_counts column bolts area face =
     worked_by (field_check column bolts area face) (worked_face panel_counts column (bolt_of bolts area) face)

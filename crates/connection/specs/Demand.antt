@@ -1,6 +1,5 @@
 -- Demand 3: the row forces of a face are the best that its limits and its cap allow. Assumes nothing.
-use Rattle.std.specs.Prelude.{◌≡◌, ◌↔◌, Bool, false, ℕ, ◌≤◌, List, take, pos, ◌≤ℤ◌}
-use Rattle.bolttable.specs.declared.BoltArea.{BoltArea}
+use Rattle.std.specs.Prelude.{◌≡◌, ◌↔◌, Bool, false, ℕ, ◌≤◌, List, take, pos, ◌≤ℤ◌, Option}
 use Rattle.joint.specs.declared.Bolts.{Bolts}
 use Rattle.joint.specs.declared.Column.{Column}
 use Rattle.joint.specs.declared.Face.{Face}
@@ -36,6 +35,6 @@ pub record Demand3 (panel_counts : Bool) (column : Column) (bolt : BoltStrengths
       ↔ ((other : List ℕ) → CompetesFor panel_counts column bolt face other → carries_of face other ≡ false)
 
 -- Demand 3 of what a face comes to: its forces and its verdict on bending.
-abbrev pub Demand3For : (panel_counts : Bool) → Column → Bolts → BoltArea → Face → FaceResult → Type 0
+abbrev pub Demand3For : (panel_counts : Bool) → Column → Bolts → Option ℕ → Face → FaceResult → Type 0
 Demand3For panel_counts column bolts area face result =
     Demand3 panel_counts column (bolt_of bolts area) face result.forces result.verdicts.bending

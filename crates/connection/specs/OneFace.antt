@@ -1,9 +1,8 @@
 -- What one face of the column comes to, from the crates below: limits, governing check, cap, row forces, moment and verdicts. A face is
 -- worked with the column that it stands on and the figures of its bolts; and panel shear counts in its cap, or not (rule 5.10). Assumes
 -- nothing.
-use Rattle.std.specs.Prelude.{ℕ, Bool, List, take, ℤ}
+use Rattle.std.specs.Prelude.{ℕ, Bool, List, take, ℤ, Option}
 use Rattle.bolttable.specs.Area.{area_number}
-use Rattle.bolttable.specs.declared.BoltArea.{BoltArea}
 use Rattle.joint.specs.declared.Bolts.{Bolts}
 use Rattle.joint.specs.declared.Column.{Column}
 use Rattle.joint.specs.declared.Face.{Face}
@@ -24,7 +23,7 @@ use Rattle.verdicts.specs.Welds.{flange_weld_passes, web_weld_passes}
 use Rattle.outcome.specs.declared.Verdicts.{Verdicts}
 
 -- the figures of bolts, by the area that the table in force lists for them
-abbrev pub bolt_of : Bolts → BoltArea → BoltStrengths
+abbrev pub bolt_of : Bolts → Option ℕ → BoltStrengths
 bolt_of bolts area = bolt_strengths bolts (area_number area)
 
 abbrev pub rows_of : Face → ℕ

@@ -19,7 +19,6 @@ ghost use Rattle.connection.specs.Steps.{measures_of, FaceAsked, AdmitAsked, Adm
 ghost use Rattle.connection.specs.declared.Admission.TheVariants.{Admitted, Refused};
 
 use arithmetic::least;
-use bolttable::BoltArea;
 use governing::{Cap, CompressionCheck};
 use joint::{Bolts, Column, Face, FieldCheck};
 use outcome::{FaceOutcome, FaceResult, Verdicts};
@@ -48,7 +47,7 @@ pub fn work_connection(
     panel_counts: bool,
     column: Column,
     bolts: Bolts,
-    area: BoltArea,
+    area: Option<u32>,
     face: Face,
 ) -> FaceOutcome
     requires { AreaInRange bolts.diameter area }
@@ -59,7 +58,7 @@ pub fn work_connection(
     match found {
         FieldCheck::Outside(field) => refused(10, field),
         FieldCheck::AllInRange => {
-            let bolt = strength::bolt_strengths(bolts, bolttable::area_number(area));
+            let bolt = strength::bolt_strengths(bolts, area.unwrap_or(0));
             work_face(panel_counts, column, bolt, face)
         }
     }

@@ -1,5 +1,6 @@
 -- What the calls lean on: where the bytes after a joint begin, that a refusal of Write leaves the buffer, that the parts of Work's refusal
 -- are small, and what the forces and the words at exit are. Assumes nothing.
+use Rattle.std.specs.Prelude.{Option}
 use Prim.Native.Nat.{ℕ, suc, ◌+◌, ◌-◌, ◌≤◌, ◌<◌}
 use mathlib.Core.Path.{◌≡◌, refl, sym, ap, ◌∙◌}
 use mathlib.Core.List.{List, [], ◌∷◌, ◌++◌, append_assoc}
@@ -13,7 +14,6 @@ use Rattle.arithmetic.specs.Checks.{Check, first_failing}
 use Rattle.arithmetic.proofs.Checks.{one_after_another}
 use Rattle.buffers.specs.Put.{at_front}
 use Rattle.bolttable.specs.Area.{area_of}
-use Rattle.bolttable.specs.declared.BoltArea.{BoltArea}
 use Rattle.bolttable.specs.declared.BoltTable.{BoltTable}
 use Rattle.joint.specs.Faces.{two_faced, first_face}
 use Rattle.joint.specs.declared.Bolts.{Bolts}
@@ -160,7 +160,7 @@ levers-within n row (h ∷ hs) few =
     rw (le-leb 1 (31 + row) (omega arith), le-leb (31 + row) first_word_count (omega arith)) (levers-within n (suc row) hs (omega arith))
 
 -- of one face, worked alone
-module _ (panel_counts : Bool) (column : Column) (bolts : Bolts) (area : BoltArea) (face : Face) where
+module _ (panel_counts : Bool) (column : Column) (bolts : Bolts) (area : Option ℕ) (face : Face) where
   field_small : length face.levers ≡ 8 → field_of (field_check column bolts area face) ≤ first_word_count
   unfolding field_check field_checks fixed_checks all_within
   field_small eight =
@@ -195,7 +195,7 @@ if_small face outcome next few small after = go (eqb outcome.number 0)
     go true = after outcome.result
     go false = record { number = small.number; field = small.field; face = few }
 
-work_small : (area : BoltArea) (joint : Joint) → length joint.face.levers ≡ 8 → length joint.other.levers ≡ 8
+work_small : (area : Option ℕ) (joint : Joint) → length joint.face.levers ≡ 8 → length joint.other.levers ≡ 8
     → Small (worked_with area joint).refusal
 unfolding worked_with worked_faces first_face
 work_small area joint eight eight' = go (two_faced joint.face.rows)

@@ -1,5 +1,6 @@
 -- Checking fields one after the other finds the first that fails: what the parts find is what the whole list does.
 -- Assumes nothing.
+use Rattle.std.specs.Prelude.{Option}
 use mathlib.Core.Path.{◌≡◌, refl, sym, ◌∙◌}
 use mathlib.Core.List.{List, [], ◌∷◌, ◌++◌}
 use Prim.Native.Nat.{ℕ, ◌+◌, ◌<◌}
@@ -10,7 +11,6 @@ use lib.Seq.{drop-cons, drop-length}
 use Rattle.arithmetic.specs.Checks.{Check, first_failing}
 use Rattle.arithmetic.specs.Range.{within}
 use Rattle.arithmetic.proofs.Checks.{stops, goes_on}
-use Rattle.bolttable.specs.declared.BoltArea.{BoltArea}
 use Rattle.joint.specs.Ranges.{levers}
 use Rattle.joint.specs.Fields.{head_checks, grade_checks, column_checks, beam_checks, plate_checks, weld_checks, load_checks, lever_checks}
 use Rattle.joint.specs.Fields.{fixed_checks, field_checks, field_check}
@@ -53,7 +53,7 @@ module _ (rows row : ℕ) (hs : List ℕ) where
 
 -- ---- the fields from each part of the check on
 
-module _ (column : Column) (bolts : Bolts) (area : BoltArea) (face : Face) where
+module _ (column : Column) (bolts : Bolts) (area : Option ℕ) (face : Face) where
   abbrev pub from-levers : List Check
   from-levers = lever_checks face.rows 0 face.levers
 

@@ -1,5 +1,6 @@
 -- Where the check finds nothing, each field is in its range: every test of the list has passed, and each named range is read off at its
 -- field's number. Assumes nothing.
+use Rattle.std.specs.Prelude.{Option}
 use mathlib.Core.Path.{◌≡◌, sym, ap, subst, ◌∙◌}
 use mathlib.Core.Bool.{Bool, true, false, cond}
 use mathlib.Core.List.{List, [], ◌∷◌}
@@ -17,7 +18,6 @@ use Rattle.arithmetic.specs.Checks.{Check}
 use Rattle.arithmetic.specs.Range.{Within, within, ◌to◌}
 use Rattle.arithmetic.proofs.Checks.{all_hold}
 use Rattle.arithmetic.proofs.Bounds.{within_yes}
-use Rattle.bolttable.specs.declared.BoltArea.{BoltArea}
 use Rattle.joint.specs.Ranges.{row_counts, flags, depths, widths, flanges, webs, radii, clears, plate_widths, thicknesses}
 use Rattle.joint.specs.Ranges.{gauges, edges, alphas, legs, weld_lengths, shear_row_counts, loads, end_distances, most_lever, levers}
 use Rattle.joint.specs.Fields.{field_check, field_checks, fixed_checks, lever_checks, within_both_signs}
@@ -44,7 +44,7 @@ size : (force : ℤ) → T (within_both_signs force) → Within loads (nat_abs f
 size (pos n) t = record { low = zero-le; high = leb→le n loads.high t }
 size (negsuc n) t = record { low = zero-le; high = let h = leb→le n 9999999 (and_yes (leb n 9999999) true t).0 in omega arith }
 
-module _ (column : Column) (bolts : Bolts) (area : BoltArea) (face : Face)
+module _ (column : Column) (bolts : Bolts) (area : Option ℕ) (face : Face)
     (found : field_check column bolts area face ≡ AllInRange) where
   held : (place : ℕ) → T (test (field_checks column bolts area face) place)
   unfolding field_check

@@ -1,12 +1,11 @@
 -- Rules 2.1 and 11.2, Work's refusal 10: each field's number with the test that it is in range, and the
 -- first that fails. The list has fields 1 to 38, the eight levers with those that the file leaves out. Assumes nothing.
-use Rattle.std.specs.Prelude.{ℕ, suc, ◌+◌, Bool, ◌&&◌, List, [], ◌∷◌, ◌++◌, ℤ, pos, neg_ℤ}
+use Rattle.std.specs.Prelude.{ℕ, suc, ◌+◌, Bool, ◌&&◌, List, [], ◌∷◌, ◌++◌, ℤ, pos, neg_ℤ, Option}
 use Rattle.std.specs.Int.Signed.{le_z}
 use Rattle.arithmetic.specs.Checks.{Check, first_failing}
 use Rattle.arithmetic.specs.Range.{within}
 use Rattle.arithmetic.specs.Table.{one_of}
 use Rattle.bolttable.specs.Area.{is_listed}
-use Rattle.bolttable.specs.declared.BoltArea.{BoltArea}
 use Rattle.joint.specs.Ranges.{row_counts, flags, classes, grades, depths, widths, flanges, webs, radii, clears}
 use Rattle.joint.specs.Ranges.{plate_widths, thicknesses, gauges, edges, alphas, legs, weld_lengths, shear_row_counts}
 use Rattle.joint.specs.Ranges.{loads, end_distances, levers}
@@ -22,7 +21,7 @@ use Rattle.joint.specs.declared.FieldCheck.{FieldCheck}
 use Rattle.joint.specs.declared.FieldCheck.TheVariants.{AllInRange, Outside}
 
 -- 1 to 4: the diameter is one that the bolt table in force lists
-abbrev pub head_checks : (rows extended class : ℕ) → BoltArea → List Check
+abbrev pub head_checks : (rows extended class : ℕ) → Option ℕ → List Check
 head_checks rows extended class area =
     (1, within row_counts rows)
     ∷ (2, within flags extended)
@@ -92,7 +91,7 @@ lever_checks n row [] = []
 lever_checks n row (h ∷ hs) = (31 + row, within (levers n row) h) ∷ lever_checks n (suc row) hs
 
 -- 1 to 30
-unfoldable pub fixed_checks : Column → Bolts → BoltArea → Face → List Check
+unfoldable pub fixed_checks : Column → Bolts → Option ℕ → Face → List Check
 fixed_checks column bolts area face =
     head_checks face.rows face.extended bolts.class area
     ++ grade_checks column.grade face.beam.grade face.plate.grade
@@ -103,11 +102,11 @@ fixed_checks column bolts area face =
     ++ load_checks face.loads column.end_distance
 
 -- all fields of a column, its bolts with the area that the table in force lists for them, and one face
-unfoldable pub field_checks : Column → Bolts → BoltArea → Face → List Check
+unfoldable pub field_checks : Column → Bolts → Option ℕ → Face → List Check
 field_checks column bolts area face = fixed_checks column bolts area face ++ lever_checks face.rows 0 face.levers
 
 -- what checking them answers
-unfoldable pub field_check : Column → Bolts → BoltArea → Face → FieldCheck
+unfoldable pub field_check : Column → Bolts → Option ℕ → Face → FieldCheck
 field_check column bolts area face = first_failing AllInRange Outside (field_checks column bolts area face)
 
 -- the field that an answer tells, 0 where all are in range

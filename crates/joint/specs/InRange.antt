@@ -1,10 +1,9 @@
 -- Fields that are all in their ranges (rule 2.1), part by part and by name: what every crate above requires of them.
 -- Assumes nothing.
-use Rattle.std.specs.Prelude.{ℕ, ◌<◌, T, nat_abs, length, get_or}
+use Rattle.std.specs.Prelude.{ℕ, ◌<◌, T, nat_abs, length, get_or, Option}
 use Rattle.arithmetic.specs.Range.{Within}
 use Rattle.arithmetic.specs.Table.{one_of}
 use Rattle.bolttable.specs.Area.{is_listed}
-use Rattle.bolttable.specs.declared.BoltArea.{BoltArea}
 use Rattle.joint.specs.Ranges.{row_counts, flags, classes, grades, depths, widths, flanges, webs, radii, clears}
 use Rattle.joint.specs.Ranges.{plate_widths, thicknesses, gauges, edges, alphas, legs, weld_lengths, shear_row_counts}
 use Rattle.joint.specs.Ranges.{loads, end_distances, levers}
@@ -28,7 +27,7 @@ pub record ColumnInRange (column : Column) : Type 0 where
   pub end_distance : Within end_distances column.end_distance
 
 -- with the area that the table in force lists for the diameter
-pub record BoltsInRange (bolts : Bolts) (area : BoltArea) : Type 0 where
+pub record BoltsInRange (bolts : Bolts) (area : Option ℕ) : Type 0 where
   pub class : T (one_of classes bolts.class)
   pub diameter : T (is_listed area)
 
@@ -72,7 +71,7 @@ pub record FaceInRange (face : Face) : Type 0 where
   pub lever : (row : ℕ) → row < length face.levers → Within (levers face.rows row) (get_or face.levers row 0)
 
 -- a column, its bolts and one face of it
-pub record InRange (c : Column) (b : Bolts) (a : BoltArea) (f : Face) : Type 0 where
+pub record InRange (c : Column) (b : Bolts) (a : Option ℕ) (f : Face) : Type 0 where
   pub column : ColumnInRange c
   pub bolts : BoltsInRange b a
   pub face : FaceInRange f

@@ -13,7 +13,6 @@ ghost use Rattle.joint.specs.Fields.{plate_checks, weld_checks, load_checks, lev
 ghost use Rattle.joint.specs.Steps.{found_by, Adds};
 
 use arithmetic::chosen;
-use bolttable::BoltArea;
 
 // Fields 5, 8 to 13 and 30.
 #[derive(Clone, Copy)]
@@ -185,7 +184,7 @@ pub enum FieldCheck {
 
 // Checks the fields of a column, its bolts and one face, in file order, and stops after the first part of them in which one fails. Of
 // field 4 it goes by what the bolt table in force lists for it.
-pub fn check_fields(column: Column, bolts: Bolts, area: BoltArea, face: Face) -> FieldCheck
+pub fn check_fields(column: Column, bolts: Bolts, area: Option<u32>, face: Face) -> FieldCheck
     ensures { result ≡ field_check column bolts area face }
 {
     let levers = face.levers;
@@ -258,13 +257,13 @@ fn graded(found: FieldCheck, number: u32, grade: u32) -> FieldCheck
 }
 
 // Fields 1 to 4.
-fn check_head(rows: u32, extended: u32, class: u32, area: BoltArea) -> FieldCheck
+fn check_head(rows: u32, extended: u32, class: u32, area: Option<u32>) -> FieldCheck
     ensures { result ≡ found_by (head_checks rows extended class area) }
 {
     let count = ranged(FieldCheck::AllInRange, 1, rows, 1, 8);
     let flag = ranged(count, 2, extended, 0, 1);
     let bolt = keep(flag, 3, (class == 46) | (class == 88) | (class == 109));
-    keep(bolt, 4, bolttable::is_listed(area))
+    keep(bolt, 4, area.is_some())
 }
 
 // Fields 5 to 7.

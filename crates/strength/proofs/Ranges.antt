@@ -1,5 +1,6 @@
 -- The least and the greatest of each strength: a test computed over each table, carried to the entry that a joint's field picks.
 -- Assumes nothing.
+use Rattle.std.specs.Prelude.{Option}
 use mathlib.Core.Bool.{Bool, true, false, ◌&&◌, ◌||◌, cond}
 use mathlib.Core.List.{List, [], ◌∷◌}
 use Prim.Native.Nat.{ℕ, ◌≤◌}
@@ -12,7 +13,6 @@ use Rattle.arithmetic.proofs.Bounds.{exactly, ◌⊗◌, ◌⊘◌, within_yes}
 use Rattle.arithmetic.proofs.Table.{each, of_found, of_any}
 use Rattle.bolttable.specs.Area.{area_number}
 use Rattle.bolttable.specs.InRange.{AreaInRange}
-use Rattle.bolttable.specs.declared.BoltArea.{BoltArea}
 use Rattle.joint.specs.Ranges.{classes, grades}
 use Rattle.joint.specs.InRange.{ColumnInRange, BoltsInRange, BeamInRange, PlateInRange}
 use Rattle.joint.specs.declared.Column.{Column}
@@ -48,7 +48,7 @@ pub shear_most : (class : ℕ) → Within (0 to 400) (bolt_shear class)
 unfolding bolt_shear
 shear_most class = by_any (0 to 400) classes (160 ∷ 375 ∷ 400 ∷ []) tt class tt
 
-pub bolt_in_range : (bolts : Bolts) (area : BoltArea) → BoltsInRange bolts area → AreaInRange bolts.diameter area
+pub bolt_in_range : (bolts : Bolts) (area : Option ℕ) → BoltsInRange bolts area → AreaInRange bolts.diameter area
     → BoltInRange (bolt_strengths bolts (area_number area))
 unfolding pair_tension pair_shear bolt_bearing bolt_ultimate
 bolt_in_range bolts area r a = record {

@@ -8,7 +8,7 @@ ghost use Rattle.words.specs.Words.{words_from};
 ghost use Rattle.words.specs.Tables.{table_word_count, table_of_words, words_of_table};
 
 use crate::put::put_u32;
-use bolttable::{BoltArea, BoltTable, PLACES};
+use bolttable::{BoltTable, PLACES};
 
 // How many words a table is, and where its areas begin.
 pub const TABLE_WORDS: usize = AREAS + PLACES;
@@ -38,7 +38,7 @@ pub fn table_of(words: &[u32]) -> BoltTable
 }
 
 // The area that the table of words lists for a diameter. Nothing is copied for it.
-pub fn area_of(words: &[u32], diameter: u32) -> BoltArea
+pub fn area_of(words: &[u32], diameter: u32) -> Option<u32>
     requires { table_word_count ≤ length words.now }
     ensures { result ≡ area_of (table_of_words words.now) diameter }
 {

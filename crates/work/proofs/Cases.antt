@@ -1,10 +1,10 @@
 -- Work's definition case by case: a face that is refused and one that isn't, and a joint that has one face alone. Assumes nothing.
+use Rattle.std.specs.Prelude.{Option}
 use mathlib.Core.Path.{◌≡◌, sym, ap, subst, ◌∙◌}
 use mathlib.Core.Bool.{Bool, true, false}
 use Prim.Native.Nat.{ℕ}
 use native.Mathlib.Omega.{arith}
 use borrow.Author.Tests.{eq-eqb, ne_eqb}
-use Rattle.bolttable.specs.declared.BoltArea.{BoltArea}
 use Rattle.joint.specs.Faces.{two_faced, with_rows, first_face}
 use Rattle.joint.specs.declared.Bolts.{Bolts}
 use Rattle.joint.specs.declared.Column.{Column}
@@ -37,7 +37,7 @@ refusal_is number field face answer e none = sym (ap (λ (o : Outcome). o.refusa
 
 -- ---- two faces, one after the other
 
-module _ (column : Column) (bolts : Bolts) (area : BoltArea) (first second : Face) {one : FaceOutcome}
+module _ (column : Column) (bolts : Bolts) (area : Option ℕ) (first second : Face) {one : FaceOutcome}
     (e : one ≡ worked_connection false column bolts area first) where
   pub first_refused : (one.number ≡ 0 → ⊥)
       → refused_outcome one.number one.field 1 ≡ worked_faces column bolts area first second
@@ -63,7 +63,7 @@ first_alone : (face : Face) → two_faced face.rows ≡ false → face ≡ first
 unfolding first_face
 first_alone face alone = ap (with_rows face) (sym (rows_as_stored face.rows alone))
 
-module _ (area : BoltArea) (joint : Joint) where
+module _ (area : Option ℕ) (joint : Joint) where
   pub of_two : two_faced joint.face.rows ≡ true
       → worked_faces joint.column joint.bolts area (first_face joint.face) joint.other ≡ worked_with area joint
   unfolding worked_with
@@ -86,7 +86,7 @@ not_both e e' = let never : ◌≡◌ {A = ℕ} 0 1 = cc in absurd (omega arith)
 
 -- ---- demand 3 by the call for one face, and by that for both
 
-module _ (area : BoltArea) (joint : Joint) (outcome : Outcome) where
+module _ (area : Option ℕ) (joint : Joint) (outcome : Outcome) where
   pub demand_alone : two_faced joint.face.rows ≡ false
       → Demand3For true joint.column joint.bolts area joint.face outcome.result
       → Demand3With area joint outcome

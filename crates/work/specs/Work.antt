@@ -1,7 +1,6 @@
 -- Working a joint (rules 11): a face on its own, or two of them and the panel between them. Assumes nothing.
-use Rattle.std.specs.Prelude.{ℕ, true, false, cond, eqb}
+use Rattle.std.specs.Prelude.{ℕ, true, false, cond, eqb, Option}
 use Rattle.bolttable.specs.Area.{area_of}
-use Rattle.bolttable.specs.declared.BoltArea.{BoltArea}
 use Rattle.bolttable.specs.declared.BoltTable.{BoltTable}
 use Rattle.joint.specs.Faces.{two_faced, first_face}
 use Rattle.joint.specs.declared.Bolts.{Bolts}
@@ -58,16 +57,16 @@ both_taken column first second result other = record {
 }
 
 -- rules 5.10 and 11.9: panel shear counts in neither's cap, and all of the first face's refusals come before the second's
-abbrev pub worked_second : Column → Bolts → BoltArea → (first second : Face) (result : FaceResult) → Outcome
+abbrev pub worked_second : Column → Bolts → Option ℕ → (first second : Face) (result : FaceResult) → Outcome
 worked_second column bolts area first second result =
     if_taken 2 (worked_connection false column bolts area second) (both_taken column first second result)
 
-unfoldable pub worked_faces : Column → Bolts → BoltArea → (first second : Face) → Outcome
+unfoldable pub worked_faces : Column → Bolts → Option ℕ → (first second : Face) → Outcome
 worked_faces column bolts area first second =
     if_taken 1 (worked_connection false column bolts area first) (worked_second column bolts area first second)
 
 -- A joint with the area of its bolts, by field 1: where it has one face nothing of a second is looked at, and panel shear counts.
-unfoldable pub worked_with : BoltArea → Joint → Outcome
+unfoldable pub worked_with : Option ℕ → Joint → Outcome
 worked_with area joint =
     let first = first_face joint.face in
     cond (two_faced joint.face.rows)

@@ -9,7 +9,7 @@ ghost use Rattle.panel.specs.Asked.{PanelAsked};
 ghost use Rattle.work.specs.Work.{panel_verdict, refused_outcome, of_one_face, worked_faces, worked_with, worked};
 ghost use Rattle.work.specs.Demand.{FacesDemand3, Demand3With, Demand3Of};
 
-use bolttable::{BoltArea, BoltTable};
+use bolttable::BoltTable;
 use connection::{no_result, work_connection};
 use joint::{Bolts, Column, Face, Joint, Loads};
 use outcome::{FaceOutcome, Outcome, PanelVerdict, Refusal};
@@ -25,7 +25,7 @@ pub fn work(table: BoltTable, joint: Joint) -> Outcome
 }
 
 // The same by the area that the table lists for the joint's bolts. Open for the exported calls, which have it from a table that is lent.
-pub fn work_with(area: BoltArea, joint: Joint) -> Outcome
+pub fn work_with(area: Option<u32>, joint: Joint) -> Outcome
     requires { AreaInRange joint.bolts.diameter area }
     ensures equals { result ≡ worked_with area joint }
     ensures demand { result.refusal.number ≡ 0 → Demand3With area joint result }
@@ -73,7 +73,7 @@ fn refused(number: u32, field: u32, face: u32) -> Outcome
 }
 
 // Both faces, the first before the second. Panel shear counts in neither's cap.
-fn work_faces(column: Column, bolts: Bolts, area: BoltArea, first: Face, second: Face) -> Outcome
+fn work_faces(column: Column, bolts: Bolts, area: Option<u32>, first: Face, second: Face) -> Outcome
     requires { AreaInRange bolts.diameter area }
     ensures equals { result ≡ worked_faces column bolts area first second }
     ensures demand { result.refusal.number ≡ 0 → FacesDemand3 column bolts area first second result }

@@ -13,7 +13,7 @@ use Rattle.connection.proofs.work_connection.Goals as goal
 
 pub work_face-requires : goal.work_face-requires
 work_face-requires c =
-    let figures : let a = c.args in c.bolt_strengths-bolt.result ≡ bolt_of a.bolts a.area = c.bolt_strengths-bolt.ensures ∙ ap (bolt_strengths c.args.bolts) c.area_number.ensures in
+    let figures : let a = c.args in c.bolt_strengths-bolt.result ≡ bolt_of a.bolts a.area = c.bolt_strengths-bolt.ensures ∙ ap (bolt_strengths c.args.bolts) c.unwrap_or.ensures in
     let a = c.args in
     let r = in_range a.column a.bolts a.area a.face (sym c.check_fields-found.ensures ∙ c.in-AllInRange.is) in
     record { column = r.column; bolt = rw figures (bolt_in_range a.bolts a.area r.bolts c.requires); face = r.face }
@@ -28,7 +28,7 @@ returns-in-Outside c =
 pub returns-in-AllInRange : goal.returns-in-AllInRange
 unfolding worked_connection
 returns-in-AllInRange c =
-    let figures : let a = c.args in c.bolt_strengths-bolt.result ≡ bolt_of a.bolts a.area = c.bolt_strengths-bolt.ensures ∙ ap (bolt_strengths c.args.bolts) c.area_number.ensures in
+    let figures : let a = c.args in c.bolt_strengths-bolt.result ≡ bolt_of a.bolts a.area = c.bolt_strengths-bolt.ensures ∙ ap (bolt_strengths c.args.bolts) c.unwrap_or.ensures in
     let a = c.args in
     let found = sym c.in-AllInRange.is ∙ c.check_fields-found.ensures in
     let face = worked_face a.panel_counts a.column (bolt_of a.bolts a.area) a.face in

@@ -1,5 +1,6 @@
 -- `work_one_face` meets its contract: the face is refused, or its words are put, with 0 for a second; and demand 3 holds of them. Assumes
 -- nothing.
+use Rattle.std.specs.Prelude.{Option}
 use mathlib.Core.Path.{◌≡◌, refl, sym, ap, subst, ◌∙◌}
 use mathlib.Core.Bool.{true, false}
 use native.Mathlib.Nat.{add-zero}
@@ -7,7 +8,6 @@ use native.Mathlib.Omega.{arith}
 use mathlib.Core.List.{List}
 use Prim.Native.Nat.{ℕ}
 use Rattle.bolttable.specs.Area.{area_of}
-use Rattle.bolttable.specs.declared.BoltArea.{BoltArea}
 use Rattle.bolttable.specs.declared.BoltTable.{BoltTable}
 use Rattle.bolttable.proofs.Areas.{area_in_range}
 use Rattle.joint.specs.Faces.{two_faced}
@@ -41,7 +41,7 @@ same c =
     let p = c.one_faced_of-joint.result in
     ap of_one_face
     (c.work_connection-worked.ensures.equals
-    ∙ ap (λ (area : BoltArea). worked_connection true p.column p.bolts area p.face) (area_is c)
+    ∙ ap (λ (area : Option ℕ). worked_connection true p.column p.bolts area p.face) (area_is c)
     ∙ ap (outcome_of (table_of_words c.args.table.now)) c.one_faced_of-joint.ensures)
     ∙ of_one _ (joint_of_words c.args.fields.now) alone
 
@@ -82,7 +82,7 @@ returns c =
     let words = c.args.res.now in
     let outcome = of_one_face c.work_connection-worked.result in
     let p = c.one_faced_of-joint.result in
-    let own = subst (λ (area : BoltArea). Demand3For true p.column p.bolts area p.face outcome.result) (area_is here.After-work_connection-worked)
+    let own = subst (λ (area : Option ℕ). Demand3For true p.column p.bolts area p.face outcome.result) (area_is here.After-work_connection-worked)
     (c.work_connection-worked.ensures.demand c.if-worked-ne0.false) in
     let demand = subst
     (λ (q : OneFaced). Demand3For true q.column q.bolts (area_of (table_of_words c.args.table.now) q.bolts.diameter) q.face outcome.result)

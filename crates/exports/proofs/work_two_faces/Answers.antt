@@ -1,9 +1,9 @@
 -- `work_two_faces` meets its contract: `work_with` refuses, or the words of what it answers are put, and demand 3 holds of them. Assumes
 -- nothing.
+use Rattle.std.specs.Prelude.{Option, ℕ}
 use mathlib.Core.Path.{◌≡◌, refl, ap, subst, ◌∙◌}
 use native.Mathlib.Omega.{arith}
 use Rattle.bolttable.specs.Area.{area_of}
-use Rattle.bolttable.specs.declared.BoltArea.{BoltArea}
 use Rattle.bolttable.proofs.Areas.{area_in_range}
 use Rattle.joint.specs.declared.Joint.{Joint}
 use Rattle.work.specs.Work.{worked_with, worked}
@@ -21,7 +21,7 @@ area_is c =
 same : (c : After-work_with-worked) → c.work_with-worked.result ≡ worked (table_of_words c.args.table.now) (joint_of_words c.args.fields.now)
 same c =
     c.work_with-worked.ensures.equals
-    ∙ ap (λ (area : BoltArea). worked_with area c.joint_of-joint.result) (area_is c)
+    ∙ ap (λ (area : Option ℕ). worked_with area c.joint_of-joint.result) (area_is c)
     ∙ ap (worked (table_of_words c.args.table.now)) c.joint_of-joint.ensures
 
 small : (c : After-work_with-worked) → Small c.work_with-worked.result.refusal
@@ -61,7 +61,7 @@ returns-then-refusal-ne0 c =
 pub returns : goal.returns
 returns c =
     let here = goal.at.returns c in
-    let demand = subst (λ (area : BoltArea). Demand3With area c.joint_of-joint.result c.work_with-worked.result)
+    let demand = subst (λ (area : Option ℕ). Demand3With area c.joint_of-joint.result c.work_with-worked.result)
     (area_is here.After-work_with-worked) (c.work_with-worked.ensures.demand c.if-refusal-ne0.false) in
     work_put _ _ _ c.requires (same here.After-work_with-worked) c.if-refusal-ne0.false c.put_outcome.ensures.words_after
     (demand_words c.args.res.now (table_of_words c.args.table.now) (joint_of_words c.args.fields.now) c.work_with-worked.result

@@ -9,7 +9,7 @@ use Rattle.joint.proofs.check_head.Goals as goal
 pub returns : goal.returns
 returns c =
     simp (or-false, ← or_assoc)
-    (rw c.is_listed.ensures at
+    (rw c.is_some.ensures at
     (c.keep.ensures _
     (c.keep-bolt.ensures _
     (c.ranged-flag.ensures _
