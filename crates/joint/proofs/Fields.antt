@@ -1,80 +1,72 @@
--- Checking fields one after the other finds the first that fails: what the parts find is what the whole list does.
--- Assumes nothing.
-use Rattle.std.specs.Prelude.{Option}
-use mathlib.Core.Path.{◌≡◌, refl, sym, ◌∙◌}
+-- Checking fields one after the other finds the first that fails: what is found of a list by its checks and by its parts, where the first
+-- that finds a field answers for all. Assumes nothing.
+use mathlib.Core.Path.{◌≡◌, refl}
+use mathlib.Core.Bool.{Bool, true, false, cond}
 use mathlib.Core.List.{List, [], ◌∷◌, ◌++◌}
 use Prim.Native.Nat.{ℕ, ◌+◌, ◌<◌}
 use native.Mathlib.Numerals.{add-one}
 use native.Mathlib.Omega.{arith}
 use lib.ListN.{length, get_or, drop}
 use lib.Seq.{drop-cons, drop-length}
+use Rattle.std.specs.Prelude.{Ok, Err, Option}
 use Rattle.arithmetic.specs.Checks.{Check, first_failing}
 use Rattle.arithmetic.specs.Range.{within}
-use Rattle.arithmetic.proofs.Checks.{stops, goes_on}
 use Rattle.joint.specs.Ranges.{levers}
 use Rattle.joint.specs.Fields.{head_checks, grade_checks, column_checks, beam_checks, plate_checks, weld_checks, load_checks, lever_checks}
-use Rattle.joint.specs.Fields.{fixed_checks, field_checks, field_check}
-use Rattle.joint.specs.Steps.{found_by}
+use Rattle.joint.specs.Fields.{fixed_checks, field_checks, field_check, FieldCheck, outside, found_by}
 use Rattle.joint.specs.declared.Column.{Column}
 use Rattle.joint.specs.declared.Bolts.{Bolts}
 use Rattle.joint.specs.declared.Face.{Face}
-use Rattle.joint.specs.declared.FieldCheck.{FieldCheck}
-use Rattle.joint.specs.declared.FieldCheck.TheVariants.{AllInRange, Outside}
 
-pub apart : (number : ℕ) → AllInRange ≡ Outside number → ⊥
+pub apart : (number : ℕ) → Ok tt ≡ outside number → ⊥
 apart number e = let z : ◌≡◌ {A = ℕ} 0 1 = cc in omega arith
 
--- before the first field
-pub nothing_asked : AllInRange ≡ found_by []
+-- what one part finds, and else what the next does
+infixr 20 ◌then◌
+abbrev pub ◌then◌ : FieldCheck → FieldCheck → FieldCheck
+(Ok done) then next = next
+(Err found) then next = Err found
+
+then_assoc : (a b c : FieldCheck) → ((a then b) then c) ≡ (a then b then c)
+then_assoc (Ok done) b c = refl
+then_assoc (Err found) b c = refl
+
+by_parts : (first second : List Check) → found_by (first ++ second) ≡ (found_by first then found_by second)
 unfolding first_failing
-nothing_asked = refl
+by_parts [] second = refl
+by_parts ((number, true) ∷ first) second = by_parts first second
+by_parts ((number, false) ∷ first) second = refl
 
--- ---- one part after another: where a field of the first fails, that is the answer, and else it is that of the others
+pub one_check : (number : ℕ) (test : Bool) → found_by ((number, test) ∷ []) ≡ cond test (Ok tt) (outside number)
+unfolding first_failing
+one_check number test = refl
 
-module _ (xs ys : List Check) where
-  pub part_stops : {found : FieldCheck} {field : ℕ} → found ≡ found_by xs → found ≡ Outside field → found ≡ found_by (xs ++ ys)
-  part_stops {field = field} e failed = failed ∙ sym (stops AllInRange Outside apart xs ys field (sym e ∙ failed))
+pub check_by_check : (check next : Check) (checks : List Check)
+    → found_by (check ∷ next ∷ checks) ≡ (found_by (check ∷ []) then found_by (next ∷ checks))
+check_by_check check next checks = by_parts (check ∷ []) (next ∷ checks)
 
-  pub part_holds : {found answer : FieldCheck} → found ≡ found_by xs → found ≡ AllInRange → answer ≡ found_by ys → answer ≡ found_by (xs ++ ys)
-  part_holds e held rest = rest ∙ sym (goes_on AllInRange Outside apart xs ys (sym e ∙ held))
+-- the parts of a column, its bolts and one face
+pub part_by_part : (column : Column) (bolts : Bolts) (area : Option ℕ) (face : Face)
+    → field_check column bolts area face
+    ≡ (found_by (head_checks face.rows face.extended bolts.class area)
+    then found_by (grade_checks column.grade face.beam.grade face.plate.grade)
+    then found_by (column_checks column)
+    then found_by (beam_checks face.beam)
+    then found_by (plate_checks face.extended face.plate face.layout)
+    then found_by (weld_checks face.welds face.shear_rows)
+    then found_by (load_checks face.loads column.end_distance)
+    then found_by (lever_checks face.rows 0 face.levers))
+unfolding field_check field_checks fixed_checks
+part_by_part column bolts area face = simp (by_parts, then_assoc) refl
 
--- ---- the levers from a row on: that of the row, and those below it
-
+-- the levers from a row on: that of the row, and those below it
 module _ (rows row : ℕ) (hs : List ℕ) where
   pub next_lever : row < length hs
-      → lever_checks rows row (drop row hs)
-      ≡ ((31 + row, within (levers rows row) (get_or hs row 0)) ∷ []) ++ lever_checks rows (row + 1) (drop (row + 1) hs)
+      → found_by (lever_checks rows row (drop row hs))
+      ≡ (found_by ((31 + row, within (levers rows row) (get_or hs row 0)) ∷ []) then found_by (lever_checks rows (row + 1) (drop (row + 1) hs)))
   unfolding lever_checks
-  next_lever h = rw (add-one, drop-cons hs row 0)
+  next_lever h = rw (add-one, drop-cons hs row 0) (by_parts ((31 + row, within (levers rows row) (get_or hs row 0)) ∷ []) _)
 
-  pub no_lever : row ≡ length hs → AllInRange ≡ found_by (lever_checks rows row (drop row hs))
+  pub no_lever : row ≡ length hs → Ok tt ≡ found_by (lever_checks rows row (drop row hs))
   unfolding lever_checks first_failing
   no_lever e = rw (e, drop-length)
-
--- ---- the fields from each part of the check on
-
-module _ (column : Column) (bolts : Bolts) (area : Option ℕ) (face : Face) where
-  abbrev pub from-levers : List Check
-  from-levers = lever_checks face.rows 0 face.levers
-
-  abbrev pub from-loads : List Check
-  from-loads = load_checks face.loads column.end_distance ++ from-levers
-
-  abbrev pub from-welds : List Check
-  from-welds = weld_checks face.welds face.shear_rows ++ from-loads
-
-  abbrev pub from-plate : List Check
-  from-plate = plate_checks face.extended face.plate face.layout ++ from-welds
-
-  abbrev pub from-beam : List Check
-  from-beam = beam_checks face.beam ++ from-plate
-
-  abbrev pub from-column : List Check
-  from-column = column_checks column ++ from-beam
-
-  abbrev pub from-grades : List Check
-  from-grades = grade_checks column.grade face.beam.grade face.plate.grade ++ from-column
-
-  pub from_head : found_by (head_checks face.rows face.extended bolts.class area ++ from-grades) ≡ field_check column bolts area face
-  unfolding field_check field_checks fixed_checks
-  from_head = refl

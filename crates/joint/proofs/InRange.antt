@@ -1,6 +1,5 @@
 -- Where the check finds nothing, each field is in its range: every test of the list has passed, and each named range is read off at its
 -- field's number. Assumes nothing.
-use Rattle.std.specs.Prelude.{Option}
 use mathlib.Core.Path.{◌≡◌, sym, ap, subst, ◌∙◌}
 use mathlib.Core.Bool.{Bool, true, false, cond}
 use mathlib.Core.List.{List, [], ◌∷◌}
@@ -14,18 +13,18 @@ use lib.IntN.{ℤ, pos, negsuc, nat_abs}
 use lib.ListN.{length, get_or, get_or-eq_default}
 use lib.Seq.{get_or-append-add}
 use mir.Facts.{and_yes}
+use Rattle.std.specs.Prelude.{Ok, Option}
 use Rattle.arithmetic.specs.Checks.{Check}
 use Rattle.arithmetic.specs.Range.{Within, within, ◌to◌}
 use Rattle.arithmetic.proofs.Checks.{all_hold}
 use Rattle.arithmetic.proofs.Bounds.{within_yes}
 use Rattle.joint.specs.Ranges.{row_counts, flags, depths, widths, flanges, webs, radii, clears, plate_widths, thicknesses}
 use Rattle.joint.specs.Ranges.{gauges, edges, alphas, legs, weld_lengths, shear_row_counts, loads, end_distances, most_lever, levers}
-use Rattle.joint.specs.Fields.{field_check, field_checks, fixed_checks, lever_checks, within_both_signs}
+use Rattle.joint.specs.Fields.{field_check, field_checks, fixed_checks, lever_checks, within_both_signs, outside}
 use Rattle.joint.specs.InRange.{InRange, FaceInRange}
 use Rattle.joint.specs.declared.Column.{Column}
 use Rattle.joint.specs.declared.Bolts.{Bolts}
 use Rattle.joint.specs.declared.Face.{Face}
-use Rattle.joint.specs.declared.FieldCheck.TheVariants.{AllInRange, Outside}
 use Rattle.joint.proofs.Fields.{apart}
 
 -- the test at a place of the list; past its end nothing is asked
@@ -45,10 +44,10 @@ size (pos n) t = record { low = zero-le; high = leb→le n loads.high t }
 size (negsuc n) t = record { low = zero-le; high = let h = leb→le n 9999999 (and_yes (leb n 9999999) true t).0 in omega arith }
 
 module _ (column : Column) (bolts : Bolts) (area : Option ℕ) (face : Face)
-    (found : field_check column bolts area face ≡ AllInRange) where
+    (found : field_check column bolts area face ≡ Ok tt) where
   held : (place : ℕ) → T (test (field_checks column bolts area face) place)
   unfolding field_check
-  held = all_hold AllInRange Outside apart (field_checks column bolts area face) found
+  held = all_hold (Ok tt) outside apart (field_checks column bolts area face) found
 
   field : (number : ℕ) → T (test (field_checks column bolts area face) (number - 1))
   field number = held (number - 1)

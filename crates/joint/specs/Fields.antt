@@ -1,6 +1,6 @@
 -- Rules 2.1 and 11.2, Work's refusal 10: each field's number with the test that it is in range, and the
 -- first that fails. The list has fields 1 to 38, the eight levers with those that the file leaves out. Assumes nothing.
-use Rattle.std.specs.Prelude.{ℕ, suc, ◌+◌, Bool, ◌&&◌, List, [], ◌∷◌, ◌++◌, ℤ, pos, neg_ℤ, Option}
+use Rattle.std.specs.Prelude.{ℕ, suc, ◌+◌, Bool, ◌&&◌, List, [], ◌∷◌, ◌++◌, ℤ, pos, neg_ℤ, Result, Ok, Err, Option, ⊤}
 use Rattle.std.specs.Int.Signed.{le_z}
 use Rattle.arithmetic.specs.Checks.{Check, first_failing}
 use Rattle.arithmetic.specs.Range.{within}
@@ -17,8 +17,7 @@ use Rattle.joint.specs.declared.Layout.{Layout}
 use Rattle.joint.specs.declared.Welds.{Welds}
 use Rattle.joint.specs.declared.Loads.{Loads}
 use Rattle.joint.specs.declared.Face.{Face}
-use Rattle.joint.specs.declared.FieldCheck.{FieldCheck}
-use Rattle.joint.specs.declared.FieldCheck.TheVariants.{AllInRange, Outside}
+use Rattle.joint.specs.declared.OutOfRange.{OutOfRange}
 
 -- 1 to 4: the diameter is one that the bolt table in force lists
 abbrev pub head_checks : (rows extended class : ℕ) → Option ℕ → List Check
@@ -105,11 +104,21 @@ fixed_checks column bolts area face =
 unfoldable pub field_checks : Column → Bolts → Option ℕ → Face → List Check
 field_checks column bolts area face = fixed_checks column bolts area face ++ lever_checks face.rows 0 face.levers
 
--- what checking them answers
+-- what checks answer: nothing, or the number of the first field that fails
+abbrev pub FieldCheck : Type 0
+FieldCheck = Result ⊤ OutOfRange
+
+abbrev pub outside : (field : ℕ) → FieldCheck
+outside field = Err (record { field = field })
+
+abbrev pub found_by : List Check → FieldCheck
+found_by checks = first_failing (Ok tt) outside checks
+
+-- what checking all fields answers
 unfoldable pub field_check : Column → Bolts → Option ℕ → Face → FieldCheck
-field_check column bolts area face = first_failing AllInRange Outside (field_checks column bolts area face)
+field_check column bolts area face = found_by (field_checks column bolts area face)
 
 -- the field that an answer tells, 0 where all are in range
 abbrev pub field_of : FieldCheck → ℕ
-field_of AllInRange = 0
-field_of (Outside field) = field
+field_of (Ok done) = 0
+field_of (Err found) = found.field

@@ -2,17 +2,14 @@
 // what each has of its own is its face. Each comment gives the field's number (rule 2.1) and unit; lengths are in tenths of a millimetre.
 #![tactic(auto)]
 
-ghost use Rattle.std.specs.Prelude.{◌≡◌};
+ghost use Rattle.std.specs.Prelude.{◌≡◌, [], ◌∷◌, ◌+◌, ◌<◌};
 ghost use Rattle.arithmetic.specs.Range.{within, ◌to◌};
 ghost use Rattle.arithmetic.specs.Table.{one_of};
-ghost use Rattle.joint.specs.Ranges.{row_counts, grades};
+ghost use Rattle.joint.specs.Ranges.{row_counts, grades, levers};
 ghost use Rattle.joint.specs.Axial.{axial_force};
 ghost use Rattle.joint.specs.Faces.{two_faced, first_rows, first_face};
-ghost use Rattle.joint.specs.Fields.{field_check, head_checks, grade_checks, column_checks, beam_checks};
+ghost use Rattle.joint.specs.Fields.{found_by, field_check, head_checks, grade_checks, column_checks, beam_checks};
 ghost use Rattle.joint.specs.Fields.{plate_checks, weld_checks, load_checks, lever_checks};
-ghost use Rattle.joint.specs.Steps.{found_by, Adds};
-
-use arithmetic::chosen;
 
 // Fields 5, 8 to 13 and 30.
 #[derive(Clone, Copy)]
@@ -175,48 +172,31 @@ pub fn axial_force(axial: i32) -> AxialForce
     }
 }
 
-// What checking a joint's fields finds: refusal 10 is `Outside`, with the first such field's number.
-#[derive(Clone, Copy)]
-pub enum FieldCheck {
-    AllInRange,
-    Outside(u32),
+// Refusal 10: the first field that is out of its range, by its number.
+#[derive(Clone, Copy, PartialEq, Eq, Debug)]
+pub struct OutOfRange {
+    pub field: u32,
 }
 
-// Checks the fields of a column, its bolts and one face, in file order, and stops after the first part of them in which one fails. Of
-// field 4 it goes by what the bolt table in force lists for it.
-pub fn check_fields(column: Column, bolts: Bolts, area: Option<u32>, face: Face) -> FieldCheck
+// Checks the fields of a column, its bolts and one face, in file order, and stops at the first that fails. Of field 4 it goes by what the
+// bolt table in force lists for it.
+#[tactic(auto, using(crate::proofs::Fields::part_by_part))]
+pub fn check_fields(
+    column: Column,
+    bolts: Bolts,
+    area: Option<u32>,
+    face: Face,
+) -> Result<(), OutOfRange>
     ensures { result ≡ field_check column bolts area face }
 {
-    let levers = face.levers;
-    let head_check = check_head(face.rows, face.extended, bolts.class, area);
-    let FieldCheck::AllInRange = head_check else {
-        return head_check;
-    };
-    let grade_check = check_grades(column.grade, face.beam.grade, face.plate.grade);
-    let FieldCheck::AllInRange = grade_check else {
-        return grade_check;
-    };
-    let column_check = check_column(column);
-    let FieldCheck::AllInRange = column_check else {
-        return column_check;
-    };
-    let beam_check = check_beam(face.beam);
-    let FieldCheck::AllInRange = beam_check else {
-        return beam_check;
-    };
-    let plate_check = check_plate(face.extended, face.plate, face.layout);
-    let FieldCheck::AllInRange = plate_check else {
-        return plate_check;
-    };
-    let weld_check = check_welds(face.welds, face.shear_rows);
-    let FieldCheck::AllInRange = weld_check else {
-        return weld_check;
-    };
-    let load_check = check_loads(face.loads, column.end_distance);
-    let FieldCheck::AllInRange = load_check else {
-        return load_check;
-    };
-    check_levers(face.rows, levers)
+    check_head(face.rows, face.extended, bolts.class, area)?;
+    check_grades(column.grade, face.beam.grade, face.plate.grade)?;
+    check_column(column)?;
+    check_beam(face.beam)?;
+    check_plate(face.extended, face.plate, face.layout)?;
+    check_welds(face.welds, face.shear_rows)?;
+    check_loads(face.loads, column.end_distance)?;
+    check_levers(face.rows, face.levers)
 }
 
 // Refusal 3's question: whether a face may have so many rows.
@@ -226,137 +206,131 @@ pub fn is_row_count(count: usize) -> bool
     (1 <= count) & (count <= 8)
 }
 
-// What was found before; if nothing, this field's number where its test fails.
-fn keep(found: FieldCheck, number: u32, holds: bool) -> FieldCheck
-    ensures { Adds found (number, holds) result }
+// A field by its test.
+#[tactic(auto, using(crate::proofs::Fields::one_check))]
+fn holds(field: u32, test: bool) -> Result<(), OutOfRange>
+    ensures { result ≡ found_by ((field, test) ∷ []) }
 {
-    match found {
-        FieldCheck::Outside(field) => FieldCheck::Outside(field),
-        FieldCheck::AllInRange => {
-            if holds {
-                FieldCheck::AllInRange
-            } else {
-                FieldCheck::Outside(number)
-            }
-        }
+    if test {
+        Ok(())
+    } else {
+        Err(OutOfRange { field })
     }
 }
 
 // A field that goes from low to high.
-fn ranged(found: FieldCheck, number: u32, value: u32, low: u32, high: u32) -> FieldCheck
-    ensures { Adds found (number, within (low to high) value) result }
+fn in_range(field: u32, value: u32, low: u32, high: u32) -> Result<(), OutOfRange>
+    ensures { result ≡ found_by ((field, within (low to high) value) ∷ []) }
 {
-    keep(found, number, (low <= value) & (value <= high))
+    holds(field, (low <= value) & (value <= high))
 }
 
 // A field that is a steel grade.
-fn graded(found: FieldCheck, number: u32, grade: u32) -> FieldCheck
-    ensures { Adds found (number, one_of grades grade) result }
+fn is_grade(field: u32, grade: u32) -> Result<(), OutOfRange>
+    ensures { result ≡ found_by ((field, one_of grades grade) ∷ []) }
 {
-    keep(found, number, (grade == 275) | (grade == 355))
+    holds(field, (grade == 275) | (grade == 355))
 }
 
 // Fields 1 to 4.
-fn check_head(rows: u32, extended: u32, class: u32, area: Option<u32>) -> FieldCheck
+#[tactic(auto, using(crate::proofs::Fields::check_by_check))]
+fn check_head(rows: u32, extended: u32, class: u32, area: Option<u32>) -> Result<(), OutOfRange>
     ensures { result ≡ found_by (head_checks rows extended class area) }
 {
-    let count = ranged(FieldCheck::AllInRange, 1, rows, 1, 8);
-    let flag = ranged(count, 2, extended, 0, 1);
-    let bolt = keep(flag, 3, (class == 46) | (class == 88) | (class == 109));
-    keep(bolt, 4, area.is_some())
+    in_range(1, rows, 1, 8)?;
+    in_range(2, extended, 0, 1)?;
+    holds(3, (class == 46) | (class == 88) | (class == 109))?;
+    holds(4, area.is_some())
 }
 
 // Fields 5 to 7.
-fn check_grades(column: u32, beam: u32, plate: u32) -> FieldCheck
+#[tactic(auto, using(crate::proofs::Fields::check_by_check))]
+fn check_grades(column: u32, beam: u32, plate: u32) -> Result<(), OutOfRange>
     ensures { result ≡ found_by (grade_checks column beam plate) }
 {
-    let first = graded(FieldCheck::AllInRange, 5, column);
-    graded(graded(first, 6, beam), 7, plate)
+    is_grade(5, column)?;
+    is_grade(6, beam)?;
+    is_grade(7, plate)
 }
 
 // Fields 8 to 13.
-fn check_column(column: Column) -> FieldCheck
+#[tactic(auto, using(crate::proofs::Fields::check_by_check))]
+fn check_column(column: Column) -> Result<(), OutOfRange>
     ensures { result ≡ found_by (column_checks column) }
 {
-    let depth = ranged(FieldCheck::AllInRange, 8, column.depth, 1000, 15000);
-    let width = ranged(depth, 9, column.width, 500, 6000);
-    let flange = ranged(width, 10, column.flange, 40, 500);
-    let web = ranged(flange, 11, column.web, 30, 400);
-    let radius = ranged(web, 12, column.radius, 0, 400);
-    ranged(radius, 13, column.clear, 500, 14000)
+    in_range(8, column.depth, 1000, 15000)?;
+    in_range(9, column.width, 500, 6000)?;
+    in_range(10, column.flange, 40, 500)?;
+    in_range(11, column.web, 30, 400)?;
+    in_range(12, column.radius, 0, 400)?;
+    in_range(13, column.clear, 500, 14000)
 }
 
 // Fields 14 to 17.
-fn check_beam(beam: Beam) -> FieldCheck
+#[tactic(auto, using(crate::proofs::Fields::check_by_check))]
+fn check_beam(beam: Beam) -> Result<(), OutOfRange>
     ensures { result ≡ found_by (beam_checks beam) }
 {
-    let depth = ranged(FieldCheck::AllInRange, 14, beam.depth, 1000, 15000);
-    let width = ranged(depth, 15, beam.width, 500, 6000);
-    let flange = ranged(width, 16, beam.flange, 40, 500);
-    ranged(flange, 17, beam.web, 30, 400)
+    in_range(14, beam.depth, 1000, 15000)?;
+    in_range(15, beam.width, 500, 6000)?;
+    in_range(16, beam.flange, 40, 500)?;
+    in_range(17, beam.web, 30, 400)
 }
 
 // Fields 18 to 22. The edge distance is 0 on a flush plate.
-fn check_plate(extended: u32, plate: Plate, layout: Layout) -> FieldCheck
+#[tactic(auto, using(crate::proofs::Fields::check_by_check))]
+fn check_plate(extended: u32, plate: Plate, layout: Layout) -> Result<(), OutOfRange>
     ensures { result ≡ found_by (plate_checks extended plate layout) }
 {
-    let width = ranged(FieldCheck::AllInRange, 18, plate.width, 500, 6000);
-    let thickness = ranged(width, 19, plate.thickness, 60, 500);
-    let gauge = ranged(thickness, 20, layout.gauge, 300, 3000);
-    let flush = extended == 0;
-    let edge = ranged(
-        gauge,
-        21,
-        layout.edge,
-        chosen(flush, 0, 150),
-        chosen(flush, 0, 2000),
-    );
-    ranged(edge, 22, layout.alpha, 400, 800)
+    in_range(18, plate.width, 500, 6000)?;
+    in_range(19, plate.thickness, 60, 500)?;
+    in_range(20, layout.gauge, 300, 3000)?;
+    let (low, high) = if extended == 0 { (0, 0) } else { (150, 2000) };
+    in_range(21, layout.edge, low, high)?;
+    in_range(22, layout.alpha, 400, 800)
 }
 
 // Fields 23 to 26.
-fn check_welds(welds: Welds, shear_rows: u32) -> FieldCheck
+#[tactic(auto, using(crate::proofs::Fields::check_by_check))]
+fn check_welds(welds: Welds, shear_rows: u32) -> Result<(), OutOfRange>
     ensures { result ≡ found_by (weld_checks welds shear_rows) }
 {
-    let flange = ranged(FieldCheck::AllInRange, 23, welds.flange, 30, 250);
-    let web = ranged(flange, 24, welds.web, 30, 250);
-    let length = ranged(web, 25, welds.length, 0, 15000);
-    ranged(length, 26, shear_rows, 0, 8)
+    in_range(23, welds.flange, 30, 250)?;
+    in_range(24, welds.web, 30, 250)?;
+    in_range(25, welds.length, 0, 15000)?;
+    in_range(26, shear_rows, 0, 8)
 }
 
 // Fields 27 to 30: the loads, and the column's z, which comes after them.
-fn check_loads(loads: Loads, end_distance: u32) -> FieldCheck
+#[tactic(auto, using(crate::proofs::Fields::check_by_check))]
+fn check_loads(loads: Loads, end_distance: u32) -> Result<(), OutOfRange>
     ensures { result ≡ found_by (load_checks loads end_distance) }
 {
     let n = loads.axial;
-    let axial = keep(
-        FieldCheck::AllInRange,
-        27,
-        (-10000000 <= n) & (n <= 10000000),
-    );
-    let shear = ranged(axial, 28, loads.shear, 0, 10000000);
-    let moment = ranged(shear, 29, loads.moment, 0, 10000000);
-    ranged(moment, 30, end_distance, 1, 15000)
+    holds(27, (-10000000 <= n) & (n <= 10000000))?;
+    in_range(28, loads.shear, 0, 10000000)?;
+    in_range(29, loads.moment, 0, 10000000)?;
+    in_range(30, end_distance, 1, 15000)
 }
 
 // Fields 31 to 38: the levers of the rows, and the spare ones, which are 0.
-fn check_levers(rows: u32, levers: [u32; 8]) -> FieldCheck
+fn check_levers(rows: u32, levers: [u32; 8]) -> Result<(), OutOfRange>
     ensures { result ≡ found_by (lever_checks rows 0 levers) }
 {
-    let mut row: u32 = 0;
-    while row < 8 {
-        let used = row < rows;
-        let found = ranged(
-            FieldCheck::AllInRange,
-            31 + row,
-            levers[row as usize],
-            chosen(used, 1, 0),
-            chosen(used, 20000, 0),
-        );
-        let FieldCheck::AllInRange = found else {
-            return found;
-        };
-        row += 1;
+    for (row, lever) in levers.iter().enumerate() {
+        check_lever(rows, row as u32, *lever)?;
     }
-    FieldCheck::AllInRange
+    Ok(())
+}
+
+// The lever of a row, which counts from 0.
+fn check_lever(rows: u32, row: u32, lever: u32) -> Result<(), OutOfRange>
+    requires { row < row_counts.high }
+    ensures { result ≡ found_by ((31 + row, within (levers rows row) lever) ∷ []) }
+{
+    if row < rows {
+        in_range(31 + row, lever, 1, 20000)
+    } else {
+        in_range(31 + row, lever, 0, 0)
+    }
 }
