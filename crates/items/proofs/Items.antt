@@ -7,6 +7,7 @@ use native.Mathlib.Omega.{arith}
 use native.Mathlib.Numerals.{add-one}
 use lib.ListN.{length, get_or, take, drop, set, length-append, take-append-drop}
 use lib.Seq.{take-suc, take_all}
+use Rattle.std.proofs.lemmas.List.{drop_more}
 use Rattle.buffers.specs.Put.{Put}
 use Rattle.buffers.proofs.Puts.{put_both, put_byte, put_length}
 use Rattle.items.specs.Digits.{decimal}
@@ -45,34 +46,17 @@ pub items_first : (f : ℕ → List ℕ) (x : ℕ) (xs : List ℕ) → length (i
 unfolding spaced
 items_first f x xs = rw length-append (omega arith)
 
+-- an item, its space before it, and those after it
 module _ (f : ℕ → List ℕ) (xs : List ℕ) (i : ℕ) (inside : i < length xs) where
-  items_next : items f (take (i + 1) xs) ≡ items f (take i xs) ++ (32 ∷ f (get_or xs i 0))
+  pub items_left : items f (drop i xs) ≡ (32 ∷ []) ++ (f (get_or xs i 0) ++ items f (drop (i + 1) xs))
+  unfolding spaced
+  items_left = rw (drop_more xs i 0 inside) refl
+
+  pub items_next : items f (take (i + 1) xs) ≡ items f (take i xs) ++ ((32 ∷ []) ++ f (get_or xs i 0))
   unfolding spaced
   items_next =
       rw (add-one, take-suc xs i 0 inside, items_append)
       (ap (λ (l : List ℕ). items f (take i xs) ++ (32 ∷ l)) (append-nil (f (get_or xs i 0))))
-
-  pub items_size : length (items f (take (i + 1) xs)) ≡ length (items f (take i xs)) + (1 + length (f (get_or xs i 0)))
-  items_size = rw (items_next, length-append) (omega arith)
-
-  -- the next item is among those to be put
-  pub items_within : length (items f (take i xs)) + (1 + length (f (get_or xs i 0))) ≤ length (items f xs)
-  items_within =
-      omega (
-        arith,
-        items_size,
-        ap length (items_append f (take (i + 1) xs) (drop (i + 1) xs)),
-        length-append (items f (take (i + 1) xs)) (items f (drop (i + 1) xs)),
-        ap (λ (l : List ℕ). length (items f l)) (take-append-drop (i + 1) xs),
-      )
-
-  module _ {buffer₀ buffer : List ℕ} {from at : ℕ} (before : Put buffer₀ from (items f (take i xs)) buffer at) where
-    pub items_room : from + length (items f xs) ≤ length buffer₀ → at + (1 + length (f (get_or xs i 0))) ≤ length buffer
-    items_room room = omega (arith, items_within, before.place, put_length before)
-
-    pub items_more : {exit : List ℕ} {next : ℕ} → Put (set buffer at 32) (at + 1) (f (get_or xs i 0)) exit next
-        → Put buffer₀ from (items f (take (i + 1) xs)) exit next
-    items_more put = rw items_next (put_both before (put_both (put_byte buffer at 32) put))
 
 pub items_all : (f : ℕ → List ℕ) (xs : List ℕ) (i : ℕ) → length xs ≤ i → items f (take i xs) ≡ items f xs
 items_all f xs i outside = rw (take_all i xs outside)

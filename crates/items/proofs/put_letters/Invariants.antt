@@ -1,13 +1,10 @@
--- What each turn of a loop keeps, and why the loop or the recursion ends.
-use Prim.Native.Nat.{◌-◌}
-use lib.ListN.{length, take}
-use Rattle.buffers.specs.Put.{Put}
+-- What each turn of the loop keeps: the items passed are taken, and there is room for the others.
+use lib.ListN.{take, drop}
 use Rattle.items.specs.Items.{letter}
 use Rattle.items.proofs.Items.{items}
 use Rattle.items.proofs.put_letters.Given as goal
 
-abbrev pub invariant-loop-i : goal.invariant-loop-i
-invariant-loop-i l = Put l.initial.buffer l.from (items letter (take l.i l.letters)) l.buffer l.at
-
-abbrev pub decreases-loop-i : goal.decreases-loop-i
-decreases-loop-i l = length l.letters - l.i
+abbrev pub invariant-loop-letter : goal.invariant-loop-letter
+invariant-loop-letter g l =
+    g.S.Sink.takes l.initial.sink (items letter (take l.letter-index l.letters)) l.sink
+    × g.S.Sink.has_room l.sink (items letter (drop l.letter-index l.letters))

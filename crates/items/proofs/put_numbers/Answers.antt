@@ -1,37 +1,33 @@
--- `put_numbers` meets its contract: the items of the numbers passed are put, and one more is joined to them. The measure is the
--- count of numbers left. Assumes nothing.
-use native.Mathlib.Omega.{arith}
-use lib.ListN.{length-set}
-use Rattle.buffers.proofs.Puts.{put_none, put_length}
+-- `put_numbers` meets its contract: the items of the numbers passed are taken, and one more is joined to them. Assumes nothing.
+use mathlib.Core.List.{[], ◌∷◌}
 use Rattle.items.specs.Digits.{decimal}
 use Rattle.items.specs.Items.{spaced}
-use Rattle.items.proofs.Items.{items_room, items_more, items_all}
+use Rattle.items.proofs.Items.{items_left, items_next, items_all}
 use Rattle.items.proofs.put_numbers.Goals as goal
 
-pub loop-i-init : goal.loop-i-init
+pub loop-number-init : goal.loop-number-init
 unfolding spaced
-loop-i-init c = put_none _ _
+loop-number-init g c = (g.met.S.Sink.takes_none c.args.sink.now, c.requires)
 
-pub bounds-buffer-at : goal.bounds-buffer-at
-bounds-buffer-at c = omega (arith, items_room decimal _ _ c.loop-i-test.true c.loop-i.invariant c.requires)
+pub byte-requires : goal.byte-requires
+byte-requires g c =
+    let room = rw (items_left decimal _ _ c.loop-number-test.true) at c.loop-number.invariant.1 in
+    g.met.S.Sink.room_first _ _ _ room
 
-pub overflow_add-at : goal.overflow_add-at
-overflow_add-at c =
-    omega (
-      arith,
-      items_room decimal _ _ c.loop-i-test.true c.loop-i.invariant c.requires,
-      put_length c.loop-i.invariant,
-      c.well_formed,
+pub number-requires : goal.number-requires
+number-requires g c =
+    let sink = g.met.S.Sink in
+    let room = rw (items_left decimal _ _ c.loop-number-test.true) at c.loop-number.invariant.1 in
+    sink.room_first _ _ _ (sink.room_after _ _ _ _ c.byte.ensures room)
+
+pub loop-number-preserved : goal.loop-number-preserved
+loop-number-preserved g c =
+    let sink = g.met.S.Sink in
+    let room = rw (items_left decimal _ _ c.loop-number-test.true) at c.loop-number.invariant.1 in
+    let item = sink.takes_both _ _ _ _ _ c.byte.ensures c.number.ensures in (
+      rw (items_next decimal _ _ c.loop-number-test.true) (sink.takes_both _ _ _ _ _ c.loop-number.invariant.0 item),
+      sink.room_after _ _ _ _ c.number.ensures (sink.room_after _ _ _ _ c.byte.ensures room),
     )
 
-pub put_number-at-requires : goal.put_number-at-requires
-put_number-at-requires c = simp length-set (omega (arith, items_room decimal _ _ c.loop-i-test.true c.loop-i.invariant c.requires))
-
-pub loop-i-preserved : goal.loop-i-preserved
-loop-i-preserved c = items_more decimal _ _ c.loop-i-test.true c.loop-i.invariant c.put_number-at.ensures
-
-pub shape_of-buffer : goal.shape_of-buffer
-shape_of-buffer c = put_length c.loop-i.invariant
-
 pub returns : goal.returns
-returns c = rw (← items_all decimal c.args.numbers.now _ c.loop-i-test.false) c.loop-i.invariant
+returns g c = rw (← items_all decimal c.args.numbers.now _ c.loop-number-test.false) c.loop-number.invariant.0
