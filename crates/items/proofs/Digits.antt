@@ -1,56 +1,65 @@
--- A number's digits are put from their end: what is left to put where the loop begins a turn, and that a turn carries it on or ends it.
+-- A number's digits are put from their end: so many of its lowest are its digits, and what is left to put where the loop begins a turn.
 -- Assumes nothing.
-use Prim.Native.Nat.{ℕ, ◌+◌, ◌-◌, ◌/◌, ◌%◌, ◌^◌, ◌≤◌, ◌<◌}
+use Prim.Native.Nat.{ℕ, zero, suc, ◌+◌, ◌-◌, ◌/◌, ◌%◌, ◌≤◌, ◌<◌}
 use mathlib.Core.Path.{◌≡◌, refl, sym, ap, ◌∙◌}
-use mathlib.Core.List.{List, [], ◌∷◌}
+use mathlib.Core.List.{List, [], ◌∷◌, ◌++◌}
+use mathlib.Core.Logic.{⊎_elim}
 use native.Mathlib.Omega.{arith}
-use lib.ListN.{length, set, length-set, length-append}
+use native.Mathlib.Numerals.{add-one}
+use lib.ListN.{length, set, length-append}
 use lib.Seq.{sets}
+use Rattle.arithmetic.proofs.Tests.{split}
 use Rattle.buffers.specs.Put.{Put}
 use Rattle.buffers.proofs.Puts.{sets_last}
-use Rattle.items.specs.Digits.{digit, decimal}
-use Rattle.items.proofs.Numerals.{decimal_last, decimal_more, count_positive}
+use Rattle.items.specs.Digits.{digit, digits, decimal}
+use Rattle.items.proofs.Numerals.{digits_last, digits_more}
 
--- The digits of `left` are still to be put, the last of them at `at`.
+-- so many of the lowest digits, the lowest last
+unfoldable pub lowest : (count n : ℕ) → List ℕ
+lowest zero n = []
+lowest (suc count) n = lowest count (n / 10) ++ (digit (n % 10) ∷ [])
+
+lowest_length : (count n : ℕ) → length (lowest count n) ≡ count
+unfolding lowest
+lowest_length zero n = refl
+lowest_length (suc count) n = rw length-append (omega (arith, lowest_length count (n / 10)))
+
+digits_lowest : (most n : ℕ) → digits most n ≡ lowest (length (digits most n)) n
+unfolding digits lowest
+digits_lowest zero n = refl
+digits_lowest (suc most) n =
+    ⊎_elim (λ (last : n < 10). rw (digits_last most n last) (ap (λ (d : ℕ). digit d ∷ []) (omega arith)))
+    (λ (more : 10 ≤ n). rw (digits_more most n more, length-append (digits most (n / 10)) (digit (n % 10) ∷ []), add-one)
+    (ap (λ (ds : List ℕ). ds ++ (digit (n % 10) ∷ [])) (digits_lowest most (n / 10))))
+    (split n 10)
+
+-- The digits of `left` that are still to be put go from `from` up to `at`.
 pub record DigitsHead (buffer₀ : List ℕ) (from n : ℕ) (buffer : List ℕ) (at left : ℕ) : Type 0 where
-  pub small : left < 2 ^ 64
-  pub holds : length buffer ≡ length buffer₀
-  pub place : at + 1 ≡ from + length (decimal left)
-  pub short : length (decimal left) ≤ length (decimal n)
-  pub writes : sets buffer from (decimal left) ≡ sets buffer₀ from (decimal n)
+  pub within : from ≤ at
+  pub writes : sets buffer from (lowest (at - from) left) ≡ sets buffer₀ from (decimal n)
 
-pub digits_none : (buffer : List ℕ) (from n count : ℕ) → n < 2 ^ 64 → count ≡ length (decimal n)
-    → DigitsHead buffer from n buffer (from + count - 1) n
-digits_none buffer from n count small all =
-    record { small = small; holds = refl; place = omega (arith, count_positive n small); short = omega arith; writes = refl }
+pub digits_none : (buffer : List ℕ) (from n count : ℕ) → count ≡ length (decimal n) → DigitsHead buffer from n buffer (from + count) n
+digits_none buffer from n count all =
+    let places : from + count - from ≡ length (decimal n) = omega (arith, all) in
+    record { within = omega arith; writes = rw places (ap (sets buffer from) (sym (digits_lowest 20 n))) }
 
 module _ {buffer₀ : List ℕ} {from n : ℕ} {buffer : List ℕ} {at left : ℕ} (head : DigitsHead buffer₀ from n buffer at left) where
-  pub digits_room : from + length (decimal n) ≤ length buffer₀ → at < length buffer
-  digits_room room = omega (arith, head)
+  pub digits_put : at ≤ from → Put buffer₀ from (decimal n) buffer (from + length (decimal n))
+  unfolding lowest
+  digits_put done =
+      let none : at - from ≡ 0 = omega arith in
+      record { place = refl; stores = rw none at head.writes }
 
-  pub digits_last_put : left < 10 → Put buffer₀ from (decimal n) (set buffer at (48 + left)) (from + length (decimal n))
-  digits_last_put last =
-      let one = decimal_last left last in
-      let here : at ≡ from = omega (arith, rw one at head.place) in
-      record { place = refl; stores = rw here (rw one at head.writes) }
-
-  module _ (more : 10 ≤ left) where
-    tens : length (decimal left) ≡ length (decimal (left / 10)) + 1
-    tens = rw (decimal_more left head.small more) (length-append (decimal (left / 10)) (digit (left % 10) ∷ []))
-
-    pub digits_back : 0 < at
-    digits_back = omega (arith, head.place, tens, count_positive (left / 10) (omega (arith, head.small)))
-
-    pub digits_more_put : DigitsHead buffer₀ from n (set buffer at (48 + left % 10)) (at - 1) (left / 10)
-    digits_more_put =
-        let place : at ≡ from + length (decimal (left / 10)) = omega (arith, head.place, tens) in
-        record {
-          small = omega (arith, head.small);
-          holds = length-set buffer at (48 + left % 10) ∙ head.holds;
-          place = omega (arith, digits_back, place);
-          short = omega (arith, head.short, tens);
-          writes =
-              rw place
-              (sym (sets_last buffer from (decimal (left / 10)) (digit (left % 10)))
-              ∙ ap (sets buffer from) (sym (decimal_more left head.small more)) ∙ head.writes);
-        }
+  pub digits_more_put : from < at → DigitsHead buffer₀ from n (set buffer (at - 1) (48 + left % 10)) (at - 1) (left / 10)
+  unfolding lowest
+  digits_more_put more =
+      let places : at - from ≡ suc (at - 1 - from) = omega arith in
+      let rest = lowest (at - 1 - from) (left / 10) in
+      let last : at - 1 ≡ from + length rest = omega (arith, lowest_length (at - 1 - from) (left / 10)) in
+      record {
+        within = omega arith;
+        writes =
+            ap (λ (place : ℕ). sets (set buffer place (digit (left % 10))) from rest) last
+            ∙ sym (sets_last buffer from rest (digit (left % 10)))
+            ∙ (rw places at head.writes);
+      }

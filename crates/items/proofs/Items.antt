@@ -5,11 +5,9 @@ use mathlib.Core.Path.{◌≡◌, refl, ap}
 use mathlib.Core.List.{List, [], ◌∷◌, ◌++◌, map, append_assoc, append-nil}
 use native.Mathlib.Omega.{arith}
 use native.Mathlib.Numerals.{add-one}
-use lib.ListN.{length, get_or, take, drop, set, length-append, take-append-drop}
+use lib.ListN.{length, get_or, take, drop, length-append}
 use lib.Seq.{take-suc, take_all}
 use Rattle.std.proofs.lemmas.List.{drop_more}
-use Rattle.buffers.specs.Put.{Put}
-use Rattle.buffers.proofs.Puts.{put_both, put_byte, put_length}
 use Rattle.items.specs.Digits.{decimal}
 use Rattle.items.specs.Items.{spaced, letter}
 use Rattle.items.proofs.Numerals.{decimal_short}

@@ -1,23 +1,21 @@
 -- Digits: a number of 64 bits is written as its tens followed by its last digit, so that twenty digits are always enough. From that, how
--- many digits there are: four more for each division by 10000, and at last one for each power of ten reached. Assumes nothing.
-use Prim.Native.Nat.{ℕ, zero, suc, ◌+◌, ◌/◌, ◌%◌, ◌^◌, ◌*◌, ◌≤◌, ◌<◌}
-use mathlib.Core.Path.{◌≡◌}
+-- many digits there are: one more than the power of ten that it reaches. Assumes nothing.
+use Prim.Native.Nat.{ℕ, zero, suc, ◌+◌, ◌/◌, ◌%◌, ◌^◌, ◌*◌, ◌≤◌, ◌<◌, max}
+use mathlib.Core.Path.{◌≡◌, sym}
 use mathlib.Core.List.{[], ◌∷◌, ◌++◌}
 use mathlib.Core.Logic.{⊎_elim}
 use native.Mathlib.Omega.{arith}
-use native.Mathlib.Nat.{pow-suc}
-use borrow.Author.Tests.{lt-ltb, le-ltb, le-leb, lt-leb}
-use lib.Dec.{leb}
+use native.Mathlib.Nat.{pow-suc, one-le-pow}
+use borrow.Author.Tests.{lt-ltb, le-ltb}
 use lib.ListN.{length, length-append}
-use mir.Val.{bool_byte}
 use Rattle.arithmetic.proofs.Tests.{split}
 use Rattle.items.specs.Digits.{digit, digits, decimal}
 
-digits_last : (most n : ℕ) → n < 10 → digits (suc most) n ≡ digit n ∷ []
+pub digits_last : (most n : ℕ) → n < 10 → digits (suc most) n ≡ digit n ∷ []
 unfolding digits
 digits_last most n last = rw (lt-ltb n 10 last)
 
-digits_more : (most n : ℕ) → 10 ≤ n → digits (suc most) n ≡ digits most (n / 10) ++ (digit (n % 10) ∷ [])
+pub digits_more : (most n : ℕ) → 10 ≤ n → digits (suc most) n ≡ digits most (n / 10) ++ (digit (n % 10) ∷ [])
 unfolding digits
 digits_more most n more = rw (le-ltb n 10 more)
 
@@ -60,48 +58,22 @@ count_more n small more = rw (decimal_more n small more) (length-append (decimal
 pub count_positive : (n : ℕ) → n < 2 ^ 64 → 0 < length (decimal n)
 count_positive n small = ⊎_elim (λ last. omega (arith, count_last n last)) (λ more. omega (arith, count_more n small more)) (split n 10)
 
-pub count_four : (n : ℕ) → n < 2 ^ 64 → 10000 ≤ n → length (decimal n) ≡ length (decimal (n / 10000)) + 4
-count_four n small more =
-    let tens : n / 10 / 10 / 10 / 10 ≡ n / 10000 = omega arith in
-    rw (← tens)
-    (omega (
+count_power : (power n : ℕ) → n < 2 ^ 64 → 10 ^ power ≤ n → n < 10 * 10 ^ power → length (decimal n) ≡ power + 1
+count_power zero n small reached next = count_last n (omega arith)
+count_power (suc power) n small reached next =
+    let tens : 10 ^ suc power ≡ 10 ^ power * 10 = pow-suc 10 power in
+    let positive : 0 < 10 ^ power = one-le-pow power 10 (omega arith) in
+    omega (
       arith,
       count_more n small (omega arith),
-      count_more (n / 10) (omega arith) (omega arith),
-      count_more (n / 10 / 10) (omega arith) (omega arith),
-      count_more (n / 10 / 10 / 10) (omega arith) (omega arith),
-    ))
+      count_power power (n / 10) (omega arith) (omega arith) (omega arith),
+    )
 
-pub count_few : (n : ℕ) → n < 10000 → length (decimal n) ≡ 1 + bool_byte (leb 10 n) + bool_byte (leb 100 n) + bool_byte (leb 1000 n)
-count_few n small =
-    ⊎_elim (λ last. rw (lt-leb 10 n last, lt-leb 100 n (omega arith), lt-leb 1000 n (omega arith)) (count_last n last))
-    (λ more. rw (le-leb 10 n more)
-    (⊎_elim (λ (h : n < 100). rw (lt-leb 100 n h, lt-leb 1000 n (omega arith)) (omega (arith, two more h)))
-    (λ h. rw (le-leb 100 n h)
-    (⊎_elim (λ (g : n < 1000). rw (lt-leb 1000 n g) (omega (arith, three h g)))
-    (λ (g : 1000 ≤ n). rw (le-leb 1000 n g) (omega (arith, four g)))
-    (split n 1000)))
-    (split n 100)))
-    (split n 10)
-  where
-    two : 10 ≤ n → n < 100 → length (decimal n) ≡ 2
-    two more few = omega (arith, count_more n (omega arith) more, count_last (n / 10) (omega arith))
-
-    three : 100 ≤ n → n < 1000 → length (decimal n) ≡ 3
-    three more few =
-        omega (
-          arith,
-          count_more n (omega arith) (omega arith),
-          count_more (n / 10) (omega arith) (omega arith),
-          count_last (n / 10 / 10) (omega arith),
-        )
-
-    four : 1000 ≤ n → length (decimal n) ≡ 4
-    four more =
-        omega (
-          arith,
-          count_more n (omega arith) (omega arith),
-          count_more (n / 10) (omega arith) (omega arith),
-          count_more (n / 10 / 10) (omega arith) (omega arith),
-          count_last (n / 10 / 10 / 10) (omega arith),
-        )
+-- 0 has one digit, as 1 has
+pub count_reached : (power n : ℕ) → n < 2 ^ 64 → 10 ^ power ≤ max n 1 → max n 1 < 10 * 10 ^ power → power + 1 ≡ length (decimal n)
+count_reached power n small reached next =
+    let count : length (decimal (max n 1)) ≡ power + 1 = count_power power (max n 1) (omega arith) reached next in
+    let same : 1 ≤ n → max n 1 ≡ n = λ some. omega arith in
+    ⊎_elim (λ (none : n < 1). omega (arith, count, count_last (max n 1) (omega arith), count_last n (omega arith)))
+    (λ (some : 1 ≤ n). sym (rw (same some) at count))
+    (split n 1)

@@ -3,17 +3,11 @@ ghost use Rattle.std.specs.Prelude.{◌≡◌, ◌+◌, ◌≤◌, length};
 ghost use Rattle.buffers.specs.Put.{Put};
 ghost use Rattle.items.specs.Digits.{decimal};
 
-// How many digits a number has, by a division for every four of them.
+// How many digits a number has: one more than the power of ten that it reaches.
 pub fn digit_count(n: u64) -> usize
     ensures { result ≡ length (decimal n) }
 {
-    let mut left = n;
-    let mut count: usize = 1;
-    while 10000 <= left {
-        left /= 10000;
-        count += 4;
-    }
-    count + (10 <= left) as usize + (100 <= left) as usize + (1000 <= left) as usize
+    n.max(1).ilog10() as usize + 1
 }
 
 // Writes a number's digits from `from` on, the lowest first and so from their end, and answers the place after them.
@@ -22,13 +16,10 @@ pub fn put_number(buffer: &mut [u8], from: usize, n: u64) -> usize
     ensures { Put buffer.old from (decimal n) buffer.new result }
 {
     let next = from + digit_count(n);
-    let mut at = next - 1;
     let mut left = n;
-    while 10 <= left {
-        buffer[at] = (48 + left % 10) as u8;
+    for at in (from..next).rev() {
+        buffer[at] = b'0' + (left % 10) as u8;
         left /= 10;
-        at -= 1;
     }
-    buffer[at] = (48 + left) as u8;
     next
 }

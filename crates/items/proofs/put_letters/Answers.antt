@@ -1,5 +1,4 @@
 -- `put_letters` meets its contract as `put_numbers` does: a letter's item is its space and its byte. Assumes nothing.
-use mathlib.Core.List.{[], ◌∷◌}
 use Rattle.items.specs.Items.{spaced, letter}
 use Rattle.items.proofs.Items.{items_left, items_next, items_all}
 use Rattle.items.proofs.put_letters.Goals as goal
@@ -23,8 +22,7 @@ pub loop-letter-preserved : goal.loop-letter-preserved
 loop-letter-preserved g c =
     let sink = g.met.S.Sink in
     let room = rw (items_left letter _ _ c.loop-letter-test.true) at c.loop-letter.invariant.1 in
-    let item = sink.takes_both _ _ _ _ _ c.byte.ensures c.byte-in-loop-letter.ensures in
-    (
+    let item = sink.takes_both _ _ _ _ _ c.byte.ensures c.byte-in-loop-letter.ensures in (
       rw (items_next letter _ _ c.loop-letter-test.true) (sink.takes_both _ _ _ _ _ c.loop-letter.invariant.0 item),
       sink.room_after _ _ _ _ c.byte-in-loop-letter.ensures (sink.room_after _ _ _ _ c.byte.ensures room),
     )

@@ -1,5 +1,4 @@
 -- `put_numbers` meets its contract: the items of the numbers passed are taken, and one more is joined to them. Assumes nothing.
-use mathlib.Core.List.{[], ◌∷◌}
 use Rattle.items.specs.Digits.{decimal}
 use Rattle.items.specs.Items.{spaced}
 use Rattle.items.proofs.Items.{items_left, items_next, items_all}
