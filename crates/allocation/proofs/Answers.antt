@@ -2,8 +2,7 @@
 -- Assumes nothing.
 use mathlib.Core.Path.{◌≡◌, sym, ap, ◌∙◌}
 use mathlib.Core.Bool.{true, false}
-use Prim.Native.Nat.{ℕ, suc, ◌+◌, ◌-◌, ◌*◌, ◌≤◌, ◌<◌}
-use native.Mathlib.Nat.{mul-le-mul}
+use Prim.Native.Nat.{ℕ, suc, ◌-◌, ◌≤◌, ◌<◌}
 use native.Mathlib.Omega.{arith}
 use mathlib.Core.List.{List}
 use lib.ListN.{length, take, replicate}
@@ -18,17 +17,12 @@ use Rattle.sharing.specs.Groups.{Table, group_count, listed, most_limit}
 use Rattle.sharing.specs.Sharing.{shared}
 use Rattle.sharing.specs.Best.{Best}
 use Rattle.sharing.proofs.Theorems.{best}
-use Rattle.allocation.specs.declared.Allocation.{Allocation}
-use Rattle.allocation.specs.Allocation.{none_above, refused_allocation, allocate_refusals, allocated}
+use Rattle.allocation.specs.Allocation.{Allocation, none_above, refused_allocation, allocate_refusals, allocated}
 use Rattle.allocation.specs.Steps.{Shareable}
 use Rattle.allocation.proofs.Bound.{both, each_within}
 
-pub at_most_eight : (n : ℕ) → within row_counts n ≡ true → n ≤ 8
+at_most_eight : (n : ℕ) → within row_counts n ≡ true → n ≤ 8
 at_most_eight n rows = leb-true n 8 (both (leb 1 n) (leb n 8) rows).1
-
--- n(n+1) of at most eight rows
-pub product_le : (n : ℕ) → n ≤ 8 → n * (n + 1) ≤ 72
-product_le n h = mul-le-mul {n₂ = 8} {m₂ = 9} h (omega arith)
 
 -- the places of the rows are the forces
 pub rows_kept : (n : ℕ) (limit : Table) → take n (eight_places (shared limit n)) ≡ shared limit n

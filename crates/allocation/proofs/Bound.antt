@@ -1,15 +1,14 @@
--- Whether no number of a list is above a bound, number by number.
+-- Whether no number of a list is above a bound, as the code asks it, and number by number.
 -- Assumes nothing.
-use mathlib.Core.Path.{◌≡◌, refl}
+use mathlib.Core.Path.{◌≡◌, refl, ap}
 use mathlib.Core.Bool.{Bool, true, false, ◌&&◌}
-use Prim.Native.Nat.{ℕ, zero, suc, ◌+◌, ◌≤◌, ◌<◌}
-use native.Mathlib.Numerals.{add-one}
+use Prim.Native.Nat.{ℕ, zero, suc, ◌≤◌, ◌<◌}
 use native.Mathlib.Omega.{arith}
 use mathlib.Core.List.{List, [], ◌∷◌}
-use lib.ListN.{length, get_or, drop, drop_of_length-le}
-use lib.Seq.{drop-cons}
+use lib.ListN.{length, get_or}
 use lib.Dec.{leb}
-use borrow.Author.Tests.{le-leb, lt-leb, leb-true}
+use borrow.Author.Tests.{leb-true}
+use Rattle.std.specs.List.{list_all}
 use Rattle.allocation.specs.Allocation.{none_above}
 
 pub both : (a b : Bool) → (a && b) ≡ true → (a ≡ true) × (b ≡ true)
@@ -20,19 +19,10 @@ both false b t = (t, absurd (no_false t))
     no_false e = let z : ◌≡◌ {A = ℕ} 0 1 = cc in omega arith
 
 module _ (most : ℕ) where
-  -- the number at k is within the bound: what is left decides
-  pub within : (xs : List ℕ) (k : ℕ) → k < length xs → get_or xs k 0 ≤ most
-      → none_above most (drop k xs) ≡ none_above most (drop (k + 1) xs)
+  pub none_above_all : (xs : List ℕ) → none_above most xs ≡ list_all (λ x. leb x most) xs
   unfolding none_above
-  within xs k h small = rw (drop-cons xs k 0 h, le-leb _ most small, add-one k)
-
-  pub beyond : (xs : List ℕ) (k : ℕ) → k < length xs → most < get_or xs k 0 → none_above most (drop k xs) ≡ false
-  unfolding none_above
-  beyond xs k h large = rw (drop-cons xs k 0 h, lt-leb _ most large)
-
-  pub all_passed : (xs : List ℕ) (k : ℕ) → length xs ≤ k → none_above most (drop k xs) ≡ true
-  unfolding none_above
-  all_passed xs k h = rw (drop_of_length-le xs h)
+  none_above_all [] = refl
+  none_above_all (x ∷ xs) = ap (λ b. leb x most && b) (none_above_all xs)
 
   pub each_within : (xs : List ℕ) → none_above most xs ≡ true → (k : ℕ) → k < length xs → get_or xs k 0 ≤ most
   unfolding none_above

@@ -7,7 +7,13 @@ use Rattle.joint.specs.Ranges.{row_counts}
 use Rattle.joint.specs.Places.{eight_places}
 use Rattle.sharing.specs.Groups.{group_count, listed, most_limit}
 use Rattle.sharing.specs.Sharing.{shared}
-use Rattle.allocation.specs.declared.Allocation.{Allocation}
+
+-- what Allocate answers
+pub record Allocation : Type 0 where
+  -- the refusal's number, 0 when nothing is refused
+  pub refusal : ℕ
+  -- newtons, row 1 first; 0 past the last row, and everywhere in a refusal
+  pub forces : List ℕ
 
 -- rule 10.2: whether none of them is above the most that is taken
 unfoldable pub none_above : ℕ → List ℕ → Bool

@@ -1,5 +1,6 @@
--- Rules 10: what Allocate answers (`Allocation`). Rule 7.3 for Allocate: how far one limit moves that (`Raising`).
--- For the code: what the steps of sharing require and leave (`Steps`).
+-- Rules 10: what Allocate answers (`Allocation`), and what the code's answers say of that (`Answers`). Rule 7.3 for Allocate: how far one
+-- limit moves it (`Raising`). For the code: what the steps of sharing require and leave (`Steps`).
 pub mod Allocation
+pub mod Answers
 pub mod Raising
 pub mod Steps

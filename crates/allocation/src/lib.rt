@@ -2,12 +2,13 @@
 // Rows count from 0 here, from 1 in the rules.
 #![tactic(auto)]
 
-ghost use Rattle.std.specs.Prelude.{◌≡◌, take};
+ghost use Rattle.std.specs.Prelude.{◌≡◌, take, IfOk};
 ghost use Rattle.joint.specs.Places.{eight_places};
-ghost use Rattle.sharing.specs.Groups.{listed};
+ghost use Rattle.sharing.specs.Groups.{listed, most_limit};
 ghost use Rattle.sharing.specs.Sharing.{shared};
 ghost use Rattle.sharing.specs.Best.{Best};
-ghost use Rattle.allocation.specs.Allocation.{none_above, refused_allocation, allocated};
+ghost use Rattle.allocation.specs.Allocation.{none_above, allocated};
+ghost use Rattle.allocation.specs.Answers.{number_of, allocation_meaning};
 ghost use Rattle.allocation.specs.Steps.{Shareable, Countable, Counted};
 
 use arithmetic::least;
@@ -15,33 +16,52 @@ use arithmetic::least;
 // No limit above this is taken: refusal 8.
 const MOST: u64 = 4_000_000_000;
 
-#[derive(Clone, Copy)]
-pub struct Allocation {
-    // the refusal's number, 0 when nothing is refused
-    pub refusal: u32,
-    // newtons, row 1 first; 0 past the last row, and everywhere in a refusal
-    pub forces: [u64; 8],
+// What a list of limits is refused for.
+#[derive(Clone, Copy, PartialEq, Eq, Debug)]
+pub enum LimitsRefusal {
+    // no row, or more than eight
+    RowCount,
+    // fewer than the groups
+    TooFewLimits,
+    LimitTooLarge,
 }
 
-// The forces of `count` bolt rows under the limits of their groups, in newtons: groups 1–1, 1–2, .. 1–n, 2–2 and so on.
-pub fn allocate(count: usize, limits: &[u64]) -> Allocation
-    ensures equals { result ≡ allocated count limits.now }
-    ensures best { result.refusal ≡ 0 → Best (listed count limits.now) count (take count result.forces) }
+impl LimitsRefusal {
+    pub fn number(self) -> u32
+        ensures { result ≡ number_of self }
+    {
+        match self {
+            LimitsRefusal::RowCount => 3,
+            LimitsRefusal::TooFewLimits => 7,
+            LimitsRefusal::LimitTooLarge => 8,
+        }
+    }
+}
+
+// The forces of `count` bolt rows under the limits of their groups, in newtons: groups 1–1, 1–2, .. 1–n, 2–2 and so on. Row 1's force is
+// first, and past the last row they are 0.
+pub fn allocate(count: usize, limits: &[u64]) -> Result<[u64; 8], LimitsRefusal>
+    ensures equals { allocation_meaning result ≡ allocated count limits.now }
+    ensures best { IfOk result (λ forces. Best (listed count limits.now) count (take count forces)) }
 {
     if !joint::is_row_count(count) {
-        return refused(3);
+        return Err(LimitsRefusal::RowCount);
     }
     let groups = count * (count + 1) / 2;
     if limits.len() < groups {
-        return refused(7);
+        return Err(LimitsRefusal::TooFewLimits);
     }
-    if !none_above(&limits[..groups], MOST) {
-        return refused(8);
+    if !none_above_most(&limits[..groups]) {
+        return Err(LimitsRefusal::LimitTooLarge);
     }
-    Allocation {
-        refusal: 0,
-        forces: share(count, limits),
-    }
+    Ok(share(count, limits))
+}
+
+// No limit is above the most that is taken.
+fn none_above_most(limits: &[u64]) -> bool
+    ensures { result ≡ none_above most_limit limits.now }
+{
+    limits.iter().all(|limit| *limit <= MOST)
 }
 
 // The sharing itself. Open for Work, which has shown that there is a limit for each group and none too large.
@@ -88,28 +108,5 @@ fn count_groups(
         }
         last -= 1;
         lowered = least(limits[first + (last - row)], lowered);
-    }
-}
-
-// No limit is above `most`.
-fn none_above(limits: &[u64], most: u64) -> bool
-    ensures { result ≡ none_above most limits.now }
-{
-    let mut k = 0;
-    while k < limits.len() {
-        if most < limits[k] {
-            return false;
-        }
-        k += 1;
-    }
-    true
-}
-
-fn refused(number: u32) -> Allocation
-    ensures { result ≡ refused_allocation number }
-{
-    Allocation {
-        refusal: number,
-        forces: [0; 8],
     }
 }
