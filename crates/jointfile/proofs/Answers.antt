@@ -9,6 +9,7 @@ use native.Mathlib.Nat.{sub-zero, zero-sub}
 use borrow.Rule.Slice.PartMut.{put_mid}
 use lib.ListN.{length, take, drop, set, replicate, length-drop}
 use lib.Seq.{take-length, drop-length}
+use Rattle.std.specs.Prelude.{Result, Ok, Err}
 use Rattle.arithmetic.specs.Range.{Within, within, ◌to◌}
 use Rattle.arithmetic.proofs.Checks.{holds, fails}
 use Rattle.joint.specs.Ranges.{row_counts}
@@ -16,18 +17,18 @@ use Rattle.joint.specs.Faces.{two_faced}
 use Rattle.joint.specs.Places.{eight_places}
 use Rattle.joint.specs.declared.Joint.{Joint}
 use Rattle.numbers.specs.Parse.{got, refused}
-use Rattle.numbers.specs.Answers.{NumberRead, RunRead}
+use Rattle.numbers.specs.Answers.{number_of, NumberRead, RunRead}
 use Rattle.numbers.specs.declared.number.Number.{Number}
-use Rattle.numbers.specs.declared.number.Number.TheVariants.{Value, Refused as NumberRefused}
-use Rattle.numbers.specs.declared.run.Run.{Run}
-use Rattle.numbers.specs.declared.run.Run.TheVariants.{Next, Refused}
+use Rattle.numbers.specs.declared.number.NumberRefusal.{NumberRefusal}
 use Rattle.fields.specs.Fields.{field_count, field, joint_of}
 use Rattle.jointfile.specs.File.{untold_end_distance, lacking, stored_field_count, other_field_count, no_part, rows_by}
 use Rattle.jointfile.specs.File.{read_others, read_part, read_second, read_joint, answer}
 use Rattle.jointfile.specs.Write.{file, turned_down, rows_check, spare_check, writing}
-use Rattle.jointfile.specs.Answers.{part_meaning, OthersRead, PartRead, writing_if_room}
+use Rattle.jointfile.specs.Answers.{read_refusal, part_meaning, OthersRead, PartRead, writing_if_room}
 use Rattle.jointfile.specs.declared.FileKind.{FileKind}
 use Rattle.jointfile.specs.declared.FileKind.TheVariants.{Old, New}
+use Rattle.jointfile.specs.declared.ReadRefusal.{ReadRefusal}
+use Rattle.jointfile.specs.declared.ReadRefusal.TheVariants.{RowCount}
 
 -- ---- the levers in eight places
 
@@ -44,52 +45,56 @@ levers_eight rows levers e = rw (e, drop_replicate rows 8)
 
 -- ---- what follows a row count
 
-module _ {bytes entry others : List ℕ} {from rows : ℕ} {run : Run} (read : RunRead bytes from entry others run) where
-  pub others_stopped : (levers : List ℕ) (r : ℕ) → run ≡ Refused r → OthersRead bytes from rows entry others levers run
+module _ {bytes entry others : List ℕ} {from rows : ℕ} where
+  pub others_stopped : (levers : List ℕ) (r : NumberRefusal) → RunRead bytes from entry others (Err r)
+      → OthersRead bytes from rows entry others levers (Err r)
   unfolding read_others
-  others_stopped levers r is =
-      let stopped = rw is at read in
-      rw is (record { means = λ count. rw (← stopped.means); within = λ inside. omega arith })
+  others_stopped levers r read = record { means = λ count. rw (← read.means); within = λ inside. omega arith }
 
-  pub others_taken : (after : ℕ) → run ≡ Next after → (lent levers : List ℕ) (last : Run)
+  pub others_taken : (after : ℕ) → RunRead bytes from entry others (Ok after) → (lent levers : List ℕ) (last : Result ℕ NumberRefusal)
       → RunRead bytes after lent levers last → length lent ≡ rows → length levers ≡ rows
       → OthersRead bytes from rows entry others (levers ++ drop rows (replicate 8 0)) last
   unfolding read_others
-  others_taken after is lent levers (Next next) read' long same =
-      let taken = rw is at read in
+  others_taken after read lent levers (Ok next) read' long same =
       record {
-        means = λ count. rw (← taken.means, ← rw long at read'.means, levers_eight rows levers same);
-        within = λ inside. read'.within (taken.within inside);
+        means = λ count. rw (← read.means, ← rw long at read'.means, levers_eight rows levers same);
+        within = λ inside. read'.within (read.within inside);
       }
-  others_taken after is lent levers (Refused r) read' long same =
-      let taken = rw is at read in
-      record { means = λ count. rw (← taken.means, ← rw long at read'.means); within = λ inside. omega arith }
+  others_taken after read lent levers (Err r) read' long same =
+      record { means = λ count. rw (← read.means, ← rw long at read'.means); within = λ inside. omega arith }
 
 -- ---- a part
 
-module _ {bytes : List ℕ} {from : ℕ} {number : Number} (read : NumberRead bytes from number) (first : Bool) (entry : List ℕ) where
-  pub part_stopped : (fields levers : List ℕ) (r : ℕ) → number ≡ NumberRefused r → PartRead bytes from first entry fields levers (Refused r)
+module _ (bytes : List ℕ) (from : ℕ) (first : Bool) (entry : List ℕ) where
+  pub part_stopped : (fields levers : List ℕ) (r : NumberRefusal) (told : ReadRefusal) → NumberRead bytes from (Err r)
+      → read_refusal told ≡ number_of r → PartRead bytes from first entry fields levers (Err told)
   unfolding read_part
-  part_stopped fields levers r is =
-      let stopped = rw is at read in
-      record { means = rw (← stopped.means); within = omega arith }
+  part_stopped fields levers r told read same = record { means = rw (← read.means, same); within = omega arith }
 
-  module _ (count next : ℕ) (is : number ≡ Value count next) (rows : ℕ) (by : rows ≡ rows_by first count) where
-    pub part_refused : (fields levers : List ℕ) → within row_counts rows ≡ false → PartRead bytes from first entry fields levers (Refused 3)
+  module _ (count : Number) (read : NumberRead bytes from (Ok count)) (rows : ℕ) (by : rows ≡ rows_by first count.value) where
+    pub part_refused : (fields levers : List ℕ) → within row_counts rows ≡ false → PartRead bytes from first entry fields levers (Err RowCount)
     unfolding read_part
-    part_refused fields levers e =
-        let counted = rw is at read in
-        record { means = rw (← counted.means, rw by at e); within = omega arith }
+    part_refused fields levers e = record { means = rw (← read.means, rw by at e); within = omega arith }
 
-    pub part_taken : (lent others levers : List ℕ) (run : Run) → within row_counts rows ≡ true → length lent ≡ length entry - 1
-        → OthersRead bytes next rows lent others levers run → PartRead bytes from first entry (count ∷ others) levers run
-    unfolding read_part
-    part_taken lent others levers run e long read' =
-        let counted = rw is at read in
-        record {
-          means = rw (← counted.means, rw by at e) (rw (long, by) at (read'.means count));
-          within = read'.within counted.within;
-        }
+    module _ (lent others levers : List ℕ) (e : within row_counts rows ≡ true) (long : length lent ≡ length entry - 1) where
+      pub part_taken : (next : ℕ) → OthersRead bytes count.next rows lent others levers (Ok next)
+          → PartRead bytes from first entry (count.value ∷ others) levers (Ok next)
+      unfolding read_part
+      part_taken next read' =
+          record {
+            means = rw (← read.means, rw by at e) (rw (long, by) at (read'.means count.value));
+            within = read'.within read.within;
+          }
+
+      pub part_others_stopped : (fields : List ℕ) (r : NumberRefusal) (told : ReadRefusal)
+          → OthersRead bytes count.next rows lent others levers (Err r) → read_refusal told ≡ number_of r
+          → PartRead bytes from first entry fields levers (Err told)
+      unfolding read_part
+      part_others_stopped fields r told read' same =
+          record {
+            means = rw (← read.means, rw by at e, same) (rw (long, by) at (read'.means count.value));
+            within = omega arith;
+          }
 
 -- the places of a part's fields, of which the first has the count and the others are lent
 pub lent_others : (fields : List ℕ) (count : ℕ) → 1 ≤ length fields
@@ -114,20 +119,16 @@ module _ (fields levers : List ℕ) where
   unfolding read_second
   second_none bytes one = rw one
 
-  module _ (two : two_faced (field 1 fields) ≡ true) {bytes own others : List ℕ} {from : ℕ} {run : Run}
-      (read : PartRead bytes from false no_part.fields own others run) where
-    pub second_stopped : (r : ℕ) → run ≡ Refused r → read_second fields levers (drop from bytes) ≡ refused r
+  module _ (two : two_faced (field 1 fields) ≡ true) {bytes own others : List ℕ} {from : ℕ} where
+    pub second_stopped : (r : ReadRefusal) → PartRead bytes from false no_part.fields own others (Err r)
+        → read_second fields levers (drop from bytes) ≡ refused (read_refusal r)
     unfolding read_second
-    second_stopped r is =
-        let stopped = rw is at read in
-        rw (two, ← stopped.means)
+    second_stopped r read = rw (two, ← read.means)
 
-    pub second_taken : (next : ℕ) → run ≡ Next next
+    pub second_taken : (next : ℕ) → PartRead bytes from false no_part.fields own others (Ok next)
         → read_second fields levers (drop from bytes) ≡ got (joint_of fields levers own others) (drop next bytes)
     unfolding read_second
-    second_taken next is =
-        let taken = rw is at read in
-        rw (two, ← taken.means)
+    second_taken next read = rw (two, ← read.means)
 
 -- the place after the joint, of the bytes left
 pub answer_got : (bytes : List ℕ) (joint : Joint) (next : ℕ) → next ≤ length bytes
@@ -154,19 +155,20 @@ kept_fields : (kind : FileKind) → drop (stored_field_count kind) unread ≡ la
 kept_fields Old = refl
 kept_fields New = refl
 
-module _ (kind : FileKind) {count : ℕ} (stored : count ≡ stored_field_count kind) {bytes fields levers : List ℕ} {run : Run}
-    (read : PartRead bytes 0 true (take count unread) fields levers run) where
-  reads : part_meaning bytes fields levers run ≡ read_part true (other_field_count kind) bytes
-  reads = rw (stored, lent_fields kind) at read.means
+module _ (kind : FileKind) {count : ℕ} (stored : count ≡ stored_field_count kind) {bytes fields levers : List ℕ} where
+  reads : {run : Result ℕ ReadRefusal} → PartRead bytes 0 true (take count unread) fields levers run
+      → part_meaning read_refusal bytes fields levers run ≡ read_part true (other_field_count kind) bytes
+  reads read = rw (stored, lent_fields kind) at read.means
 
-  pub joint_stopped : (r : ℕ) → run ≡ Refused r → read_joint kind bytes ≡ refused r
+  pub joint_stopped : (r : ReadRefusal) → PartRead bytes 0 true (take count unread) fields levers (Err r)
+      → read_joint kind bytes ≡ refused (read_refusal r)
   unfolding read_joint
-  joint_stopped r is = rw (← reads, is)
+  joint_stopped r read = rw (← reads read)
 
-  pub joint_goes_on : (next : ℕ) → run ≡ Next next
+  pub joint_goes_on : (next : ℕ) → PartRead bytes 0 true (take count unread) fields levers (Ok next)
       → read_joint kind bytes ≡ read_second (fields ++ drop count unread) levers (drop next bytes)
   unfolding read_joint
-  joint_goes_on next is = rw (← reads, is, stored, kept_fields kind)
+  joint_goes_on next read = rw (← reads read, stored, kept_fields kind)
 
 -- ---- writing
 

@@ -1,8 +1,8 @@
 -- A file put into a buffer: how long it may be, what is refused for want of room, and what is written where there is room. Assumes nothing.
 use Prim.Native.Nat.{ℕ, ◌+◌, ◌-◌, ◌*◌, ◌≤◌, ◌<◌}
-use mathlib.Core.Path.{◌≡◌, sym, ◌∙◌}
+use mathlib.Core.Path.{◌≡◌, sym, ap, ◌∙◌}
 use mathlib.Core.Bool.{true, false}
-use mathlib.Core.List.{List, [], ◌∷◌}
+use mathlib.Core.List.{List, [], ◌∷◌, ◌++◌}
 use native.Mathlib.Omega.{arith}
 use borrow.Author.Tests.{leb-true, le-leb}
 use lib.Dec.{leb}
@@ -12,15 +12,18 @@ use Rattle.arithmetic.proofs.Checks.{fails}
 use Rattle.joint.specs.Faces.{two_faced, first_rows}
 use Rattle.joint.specs.declared.Joint.{Joint}
 use Rattle.joint.proofs.Faces.{count_most}
-use Rattle.buffers.specs.Put.{at_front, Put}
+use Rattle.buffers.specs.Put.{at_front}
+use Rattle.buffers.specs.Writing.{Puts, HasRoom}
+use Rattle.buffers.specs.declared.Writer.{Writer}
 use Rattle.buffers.proofs.Puts.{sets_front}
 use Rattle.numbers.specs.Number.{stored}
 use Rattle.numbers.specs.Run.{stored_all}
 use Rattle.numbers.proofs.Codec.{groups_last}
 use Rattle.numbers.proofs.Sizes.{stored_all_short}
-use Rattle.fields.specs.Fields.{fields_of, own_of, own_count}
+use Rattle.fields.specs.Fields.{field_count, fields_of, own_of, own_count}
 use Rattle.jointfile.specs.Write.{first_fields, second_fields, part_of, file, wrote, turned_down, rows_check}
-use Rattle.jointfile.specs.Answers.{part_stored, numbers_stored, FileParts, writing_if_room}
+use Rattle.jointfile.specs.Answers.{part_stored, numbers_stored, Few, FileParts, writing_if_room}
+use Rattle.jointfile.specs.declared.PartNumbers.{PartNumbers}
 use Rattle.jointfile.specs.declared.FileKind.TheVariants.{New}
 use Rattle.jointfile.proofs.Faces.{first_rows_few}
 
@@ -32,49 +35,51 @@ first_short (x ∷ xs) low =
     let one : length (stored x) ≡ 1 = rw (groups_last 4 x low) in
     rw length-append (omega (arith, stored_all_short xs))
 
--- so many numbers are no longer than five bytes each
-pub size_most : (xs : List ℕ) {size most : ℕ} → size ≡ length (stored_all xs) → length xs ≤ most → size ≤ 5 * most
-size_most xs size few = omega (arith, size, stored_all_short xs)
+pub part_size : (part : PartNumbers) → length (stored_all part.fields.now) + length (stored_all part.levers.now) ≡ length (part_stored part)
+part_size part = omega (arith, length-append (stored_all part.fields.now) (stored_all part.levers.now))
 
--- the bytes of a file are those of its four lists
-pub numbers_size : (fields levers own other_levers : List ℕ)
-    → length (stored_all fields) + length (stored_all levers) + length (stored_all own) + length (stored_all other_levers)
-    ≡ length (numbers_stored fields levers own other_levers)
-numbers_size fields levers own other_levers =
-    omega (
-      arith,
-      length-append (part_stored fields levers) (part_stored own other_levers),
-      length-append (stored_all fields) (stored_all levers),
-      length-append (stored_all own) (stored_all other_levers),
-    )
+pub part_size_most : (part : PartNumbers) → Few part → length (part_stored part) ≤ 5 * (field_count + 8)
+part_size_most part few = omega (arith, part_size part, few.fields, few.levers, stored_all_short part.fields.now, stored_all_short part.levers.now)
 
-pub numbers_fit : (fields levers own other_levers : List ℕ) (room : ℕ) → FileParts fields levers own other_levers
-    → 1 + 5 * (length fields - 1 + length levers + length own + length other_levers) ≤ room
-    → true ≡ leb (length (numbers_stored fields levers own other_levers)) room
-numbers_fit fields levers own other_levers room parts wide =
+-- the bytes of a file are those of its parts
+pub numbers_size : (first second : PartNumbers) → length (part_stored first) + length (part_stored second) ≡ length (numbers_stored first second)
+numbers_size first second = omega (arith, length-append (part_stored first) (part_stored second))
+
+pub numbers_fit : (first second : PartNumbers) (room : ℕ) → FileParts first second
+    → 1 + 5 * (length first.fields.now + length first.levers.now - 1 + (length second.fields.now + length second.levers.now)) ≤ room
+    → true ≡ leb (length (numbers_stored first second)) room
+numbers_fit first second room parts wide =
     sym (le-leb _ room
     (omega (
       arith,
-      numbers_size fields levers own other_levers,
-      first_short fields parts.count,
-      stored_all_short levers,
-      stored_all_short own,
-      stored_all_short other_levers,
+      numbers_size first second,
+      part_size first,
+      part_size second,
+      parts.some,
+      first_short first.fields.now parts.count,
+      stored_all_short first.levers.now,
+      stored_all_short second.fields.now,
+      stored_all_short second.levers.now,
     )))
 
 pub short_of_room : (bytes buffer : List ℕ) → leb (length bytes) (length buffer) ≡ false → turned_down buffer 5 ≡ writing_if_room bytes buffer
 unfolding writing_if_room
 short_of_room bytes buffer short = sym (fails (wrote buffer bytes) (turned_down buffer) 5 _ [] short)
 
--- bytes that are put from the front on, where there is room for them
-pub put_in_room : {bytes buffer exit : List ℕ} {next : ℕ} → Put buffer 0 bytes exit next → leb (length bytes) (length buffer) ≡ true
-    → record { refusal = 0; size = next; buffer = exit } ≡ writing_if_room bytes buffer
-unfolding writing_if_room first_failing
-put_in_room {bytes} {buffer} {exit} {next} put room =
-    let fits = leb-true (length bytes) (length buffer) room in
-    let size : next ≡ length bytes = omega (arith, put.place) in
-    let whole : exit ≡ at_front bytes buffer = put.stores ∙ sets_front bytes buffer fits in
-    simp room (λ i. record { refusal = 0; size = size i; buffer = whole i })
+-- bytes that a writer puts from the front on, where there is room for them
+module _ (bytes : List ℕ) {buffer : List ℕ} (begun : Writer) (lent : begun.buffer.now ≡ buffer) (front : begun.at ≡ 0)
+    (room : leb (length bytes) (length buffer) ≡ true) where
+  pub writer_room : HasRoom begun (length bytes)
+  writer_room = omega (arith, front, ap length lent, leb-true (length bytes) (length buffer) room)
+
+  pub put_in_room : {exit : List ℕ} (after : Writer) → Puts begun bytes after → exit ≡ after.buffer.now
+      → record { refusal = 0; size = after.at; buffer = exit } ≡ writing_if_room bytes buffer
+  unfolding writing_if_room first_failing
+  put_in_room {exit} after puts last =
+      let fits = leb-true (length bytes) (length buffer) room in
+      let size : after.at ≡ length bytes = omega (arith, puts.put.place, front) in
+      let whole : exit ≡ at_front bytes buffer = last ∙ puts.put.stores ∙ rw (lent, front) (sets_front bytes buffer fits) in
+      simp room (λ i. record { refusal = 0; size = size i; buffer = whole i })
 
 -- ---- the file of a joint is these numbers: fields and levers of the first face, and those of the second where there is one
 
@@ -82,29 +87,42 @@ pub own_count_lem : (joint : Joint) → length (second_fields joint) ≤ own_cou
 unfolding fields_of own_of
 own_count_lem joint = omega arith
 
-module _ (joint : Joint) {fields levers : List ℕ} {rows : ℕ} (numbers : fields ≡ first_fields joint) (arms : levers ≡ joint.face.levers)
-    (by : rows ≡ first_rows joint.face.rows) where
-  pub file_alone : two_faced joint.face.rows ≡ false → numbers_stored fields (take rows levers) [] [] ≡ file New joint
+module _ (joint : Joint) {fields levers : List ℕ} {rows : ℕ} (numbers : fields ≡ first_fields joint)
+    (arms : levers ≡ take rows joint.face.levers) (by : rows ≡ first_rows joint.face.rows) where
+  pub file_alone : two_faced joint.face.rows ≡ false
+      → stored_all fields ++ stored_all levers ++ (stored_all [] ++ stored_all []) ≡ file New joint
   unfolding file part_of stored_all fields_of
   file_alone one = rw (one, numbers, arms, by)
 
-  module _ {own other_levers : List ℕ} (numbers' : own ≡ second_fields joint) (arms' : other_levers ≡ joint.other.levers) where
-    pub file_both : two_faced joint.face.rows ≡ true
-        → numbers_stored fields (take rows levers) own (take joint.other.rows other_levers) ≡ file New joint
-    unfolding file part_of fields_of
-    file_both two = rw (two, numbers, arms, by, numbers', arms')
+  pub file_both : {own other_levers : List ℕ} → own ≡ second_fields joint → other_levers ≡ take joint.other.rows joint.other.levers
+      → two_faced joint.face.rows ≡ true
+      → stored_all fields ++ stored_all levers ++ (stored_all own ++ stored_all other_levers) ≡ file New joint
+  unfolding file part_of fields_of
+  file_both numbers' arms' two = rw (two, numbers, arms, by, numbers', arms')
 
+module _ (joint : Joint) (first : PartNumbers) {rows : ℕ} (numbers : first.fields.now ≡ first_fields joint)
+    (arms : first.levers.now ≡ take rows joint.face.levers) (by : rows ≡ first_rows joint.face.rows) where
   -- and they are no more than a file has
   module _ (right : (rows_check joint).1 ≡ true) where
-    pub first_counts : (own other_levers : List ℕ) → length own ≤ own_count → length other_levers ≤ 8 → FileParts fields (take rows levers) own other_levers
+    pub first_counts : (second : PartNumbers) → Few second → FileParts first second
     unfolding fields_of
-    first_counts own other_levers own_few other_rows =
-        let few = first_rows_few joint right in
+    first_counts second few =
+        let rows_few = first_rows_few joint right in
         record {
           some = rw numbers (omega arith);
-          few = rw numbers (omega arith);
-          count = rw numbers (omega (arith, count_most joint.face.rows few));
-          rows = omega (arith, length-take rows levers, by, few);
-          own_few = own_few;
-          other_rows = other_rows;
+          count = rw numbers (omega (arith, count_most joint.face.rows rows_few));
+          first_few =
+              record {
+                fields = rw numbers (omega arith);
+                levers = omega (arith, ap length arms, length-take rows joint.face.levers, by, rows_few);
+              };
+          second_few = few;
         }
+
+pub second_few : (joint : Joint) (second : PartNumbers) → second.fields.now ≡ second_fields joint
+    → second.levers.now ≡ take joint.other.rows joint.other.levers → joint.other.rows ≤ 8 → Few second
+second_few joint second numbers arms few =
+    record {
+      fields = omega (arith, ap length numbers, own_count_lem joint);
+      levers = omega (arith, ap length arms, length-take joint.other.rows joint.other.levers);
+    }

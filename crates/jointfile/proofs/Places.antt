@@ -1,12 +1,12 @@
 -- What a caller of `read` leans on. The place that it answers lies in the bytes, and what follows it is what is left of them, since a
 -- joint leaves an end of them; and the refusal is 0 just where a joint was read. Assumes nothing.
 use Prim.Native.Nat.{ℕ, ◌-◌, ◌≤◌}
-use mathlib.Core.Path.{◌≡◌, refl, sym}
+use mathlib.Core.Path.{◌≡◌, refl, sym, ap, ◌∙◌}
 use mathlib.Core.List.{List, ◌++◌}
 use mathlib.Core.Bool.{Bool, true, false}
 use native.Mathlib.Omega.{arith}
-use lib.ListN.{length, drop}
-use lib.Seq.{drop-length}
+use lib.ListN.{length, take, drop, length-drop}
+use lib.Seq.{take_all, drop-length}
 use Rattle.arithmetic.specs.Range.{within}
 use Rattle.joint.specs.Ranges.{row_counts}
 use Rattle.joint.specs.Faces.{two_faced}
@@ -17,7 +17,7 @@ use Rattle.numbers.specs.Number.{read_number}
 use Rattle.numbers.proofs.Refusals.{Numbered, numbered_cond, numbered_then, numbered_number, numbered_numbers}
 use Rattle.fields.specs.Fields.{field, own_count}
 use Rattle.jointfile.specs.File.{lacking, other_field_count, rows_by, read_others, read_part, read_second, read_joint}
-use Rattle.jointfile.specs.File.{answer, reading, left_of, rest_of}
+use Rattle.jointfile.specs.File.{Reading, answer, reading, left_of, rest_of}
 use Rattle.jointfile.specs.declared.FileKind.{FileKind}
 use Rattle.jointfile.proofs.Ends.{joint_end}
 
@@ -74,3 +74,11 @@ read_refused kind bytes = go (read_joint kind bytes)
         → parse ≡ refused (answer (length bytes) parse).refusal
     go (got joint rest) some = absurd (some refl)
     go (refused r) some = refl
+
+-- and so is what follows the place of a joint that was read
+pub next_left_lem : (kind : FileKind) (bytes : List ℕ) {joint : Joint} {next : ℕ}
+    → record { refusal = 0; joint = joint; next = next } ≡ reading kind bytes
+    → take (length bytes - next) (drop next bytes) ≡ rest_of kind bytes
+next_left_lem kind bytes {joint} {next} is =
+    let place : next ≡ (reading kind bytes).next = ap (λ (r : Reading). r.next) is in
+    take_all (length bytes - next) (drop next bytes) (omega (arith, length-drop next bytes)) ∙ rw place (next_left kind bytes)

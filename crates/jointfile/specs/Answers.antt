@@ -1,59 +1,81 @@
 -- What the code's answers mean, what its steps require, and which joints the round trip is about. Assumes nothing.
-use Rattle.std.specs.Prelude.{ℕ, ◌+◌, ◌-◌, ◌^◌, ◌≤◌, ◌<◌, ◌≡◌, List, [], ◌∷◌, ◌++◌, Bool, true, false, cond, length, get_or, drop}
+use Rattle.std.specs.Prelude.{ℕ, Result, Ok, Err, ◌+◌, ◌-◌, ◌^◌, ◌≤◌, ◌<◌, ◌≡◌, List, [], ◌∷◌, ◌++◌, Bool, true, false, cond, length, get_or, drop}
 use Rattle.joint.specs.Faces.{two_faced}
 use Rattle.joint.specs.declared.Joint.{Joint}
 use Rattle.numbers.specs.Parse.{Parse, got, refused}
 use Rattle.numbers.specs.Run.{stored_all}
-use Rattle.numbers.specs.Answers.{end_place}
-use Rattle.numbers.specs.declared.run.Run.{Run}
-use Rattle.numbers.specs.declared.run.Run.TheVariants.{Next, Refused as RunRefused}
+use Rattle.numbers.specs.Answers.{number_of, end_place}
+use Rattle.numbers.specs.declared.number.NumberRefusal.{NumberRefusal}
 use Rattle.fields.specs.Fields.{field_count, own_count, second_face_of}
-use Rattle.jointfile.specs.File.{Part, lacking, stored_field_count, no_part, read_others, read_part}
+use Rattle.jointfile.specs.File.{Part, lacking, stored_field_count, no_part, read_others, read_part, no_joint, Reading}
 use Rattle.jointfile.specs.Write.{first_fields, second_fields, Writing, turned_down, rows_check, spare_check, room_check, tried}
 use Rattle.jointfile.specs.declared.FileKind.{FileKind}
-use Rattle.jointfile.specs.declared.Written.{Written}
-use Rattle.jointfile.specs.declared.Written.TheVariants.{Length, Refused}
+use Rattle.jointfile.specs.declared.PartNumbers.{PartNumbers}
+use Rattle.jointfile.specs.declared.Reading.{Reading as ReadJoint}
+use Rattle.jointfile.specs.declared.ReadRefusal.{ReadRefusal}
+use Rattle.jointfile.specs.declared.ReadRefusal.TheVariants.{BytesEnd, WrongForm, RowCount as NoRowCount}
+use Rattle.jointfile.specs.declared.WriteRefusal.{WriteRefusal}
+use Rattle.jointfile.specs.declared.WriteRefusal.TheVariants.{RowCount, NoRoom, SpareLever}
 
--- What each case of the enum `Written` means, with the buffer at exit.
-abbrev pub written_meaning : Written → List ℕ → Writing
-written_meaning (Length size) buffer = record { refusal = 0; size = size; buffer = buffer }
-written_meaning (Refused r) buffer = turned_down buffer r
+-- the numbers of the refusals
+abbrev pub read_refusal : ReadRefusal → ℕ
+read_refusal BytesEnd = 1
+read_refusal WrongForm = 2
+read_refusal NoRowCount = 3
+
+abbrev pub write_refusal : WriteRefusal → ℕ
+write_refusal RowCount = 3
+write_refusal NoRoom = 5
+write_refusal SpareLever = 6
+
+-- What the answer to reading bytes that end at `end` means: a refusal shows no joint, and the end for the place after it.
+abbrev pub reading_meaning : ℕ → Result ReadJoint ReadRefusal → Reading
+reading_meaning end (Ok read) = record { refusal = 0; joint = read.joint; next = read.next }
+reading_meaning end (Err r) = record { refusal = read_refusal r; joint = no_joint; next = end }
+
+-- What the answer to writing means, with the buffer at exit.
+abbrev pub written_meaning : Result ℕ WriteRefusal → List ℕ → Writing
+written_meaning (Ok size) buffer = record { refusal = 0; size = size; buffer = buffer }
+written_meaning (Err r) buffer = turned_down buffer (write_refusal r)
 
 -- What writing comes to where the row counts and the spare levers are right, so that only the room is left to try.
 unfoldable pub writing_if_room : (bytes buffer : List ℕ) → Writing
 writing_if_room bytes buffer = tried bytes buffer (room_check bytes buffer ∷ [])
 
--- What reading gives, where the fields of a part stand in one list and its levers in another.
-abbrev pub part_meaning : (bytes fields levers : List ℕ) → Run → Parse Part
-part_meaning bytes fields levers (Next next) = got (record { fields = fields; levers = levers }) (drop next bytes)
-part_meaning bytes fields levers (RunRefused r) = refused r
+-- What reading gives, where the fields of a part stand in one list and its levers in another, by the numbers of the refusals.
+abbrev pub part_meaning : {E : Type 0} → (number : E → ℕ) → (bytes fields levers : List ℕ) → Result ℕ E → Parse Part
+part_meaning number bytes fields levers (Ok next) = got (record { fields = fields; levers = levers }) (drop next bytes)
+part_meaning number bytes fields levers (Err r) = refused (number r)
 
 -- The answer to reading what follows a row count: after any count it means what the definition gives from the place on, and from a place in
 -- the bytes it goes to another.
-pub record OthersRead (bytes : List ℕ) (from rows : ℕ) (entry others levers : List ℕ) (run : Run) : Type 0 where
-  pub means : (count : ℕ) → part_meaning bytes (count ∷ others) levers run ≡ read_others (length entry) count rows (drop from bytes)
+pub record OthersRead (bytes : List ℕ) (from rows : ℕ) (entry others levers : List ℕ) (run : Result ℕ NumberRefusal) : Type 0 where
+  pub means : (count : ℕ) → part_meaning number_of bytes (count ∷ others) levers run ≡ read_others (length entry) count rows (drop from bytes)
   pub within : from ≤ length bytes → end_place run ≤ length bytes
 
 -- The answer to reading a part from a place on, whose fields have the places of `entry`.
-pub record PartRead (bytes : List ℕ) (from : ℕ) (first : Bool) (entry fields levers : List ℕ) (run : Run) : Type 0 where
-  pub means : part_meaning bytes fields levers run ≡ read_part first (length entry - 1) (drop from bytes)
+pub record PartRead (bytes : List ℕ) (from : ℕ) (first : Bool) (entry fields levers : List ℕ) (run : Result ℕ ReadRefusal) : Type 0 where
+  pub means : part_meaning read_refusal bytes fields levers run ≡ read_part first (length entry - 1) (drop from bytes)
   pub within : end_place run ≤ length bytes
 
--- The bytes of the numbers of a part; and of a file: of the first face, and of the second, none where there is no second.
-abbrev pub part_stored : (fields levers : List ℕ) → List ℕ
-part_stored fields levers = stored_all fields ++ stored_all levers
+-- The bytes of the numbers of a part; and of a file: of the first face's, and of the second's, which has none where there is no second.
+abbrev pub part_stored : PartNumbers → List ℕ
+part_stored part = stored_all part.fields.now ++ stored_all part.levers.now
 
-abbrev pub numbers_stored : (fields levers own other_levers : List ℕ) → List ℕ
-numbers_stored fields levers own other_levers = part_stored fields levers ++ part_stored own other_levers
+abbrev pub numbers_stored : (first second : PartNumbers) → List ℕ
+numbers_stored first second = part_stored first ++ part_stored second
 
--- The numbers of a file, no more than a file has, of which the first takes one byte.
-pub record FileParts (fields levers own other_levers : List ℕ) : Type 0 where
-  pub some : 1 ≤ length fields
-  pub few : length fields ≤ field_count
-  pub count : get_or fields 0 0 < 128
-  pub rows : length levers ≤ 8
-  pub own_few : length own ≤ own_count
-  pub other_rows : length other_levers ≤ 8
+-- The numbers of a part, no more than a file has.
+pub record Few (part : PartNumbers) : Type 0 where
+  pub fields : length part.fields.now ≤ field_count
+  pub levers : length part.levers.now ≤ 8
+
+-- The numbers of a file, of which the first takes one byte.
+pub record FileParts (first second : PartNumbers) : Type 0 where
+  pub some : 1 ≤ length first.fields.now
+  pub count : get_or first.fields.now 0 0 < 128
+  pub first_few : Few first
+  pub second_few : Few second
 
 -- Numbers of a part that the program can hold: eight levers, and each number of the file in 32 bits. Of N that is the number that it is
 -- stored as, which takes 32 bits just where N is in the range of a signed field of 32.

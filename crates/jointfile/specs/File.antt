@@ -12,7 +12,6 @@ use Rattle.numbers.specs.Run.{read_numbers}
 use Rattle.fields.specs.Fields.{field_count, field, own_count, joint_of}
 use Rattle.jointfile.specs.declared.FileKind.{FileKind}
 use Rattle.jointfile.specs.declared.FileKind.TheVariants.{Old, New}
-use Rattle.jointfile.specs.declared.Reading.{Reading}
 
 -- rule 9.7: z of a joint whose file doesn't tell it
 abbrev pub untold_end_distance : ℕ
@@ -72,7 +71,13 @@ read_joint kind bytes =
 unfoldable pub no_joint : Joint
 no_joint = joint_of (replicate field_count 0) (replicate 8 0) no_part.fields no_part.levers
 
--- What `read` answers of bytes that end at `end`: 0, the joint and the place after it; or the refusal, no joint and the end.
+-- What reading gives: the refusal's number or 0, the joint, and the place after it.
+pub record Reading : Type 0 where
+  pub refusal : ℕ
+  pub joint : Joint
+  pub next : ℕ
+
+-- Of bytes that end at `end`: 0, the joint and the place after it; or the refusal, no joint and the end.
 abbrev pub answer : ℕ → Parse Joint → Reading
 answer end (got joint left) = record { refusal = 0; joint = joint; next = end - length left }
 answer end (refused r) = record { refusal = r; joint = no_joint; next = end }

@@ -14,12 +14,12 @@ use Rattle.numbers.specs.Parse.{Parse, got, refused}
 use Rattle.numbers.specs.Number.{groups, stored, above, read_groups, read_number, Bytes}
 
 -- no fifth byte above 15
-not_over : (before byte : ℕ) → (4 ≤ before → byte ≤ 15) → (leb 4 before && ltb 15 byte) ≡ false
+pub not_over : (before byte : ℕ) → (4 ≤ before → byte ≤ 15) → (leb 4 before && ltb 15 byte) ≡ false
 not_over before byte fine =
     ⊎_elim (λ h. simp (lt-leb 4 before h)) (λ h. simp (le-leb 4 before h, le-ltb 15 byte (fine h))) (split before 4)
 
 -- no highest group of 0 above others
-not_longer : (before byte : ℕ) → (0 < before → 0 < byte) → (ltb 0 before && eqb byte 0) ≡ false
+pub not_longer : (before byte : ℕ) → (0 < before → 0 < byte) → (ltb 0 before && eqb byte 0) ≡ false
 not_longer before byte pos =
     ⊎_elim (λ h. let p : 0 < byte = pos h in simp (lt-ltb 0 before h, ne_eqb byte 0 (λ e. omega arith)))
     (λ h. simp (le-ltb 0 before h)) (split 0 before)

@@ -1,22 +1,26 @@
 -- The loop that reads a number: what is known at its head, what each byte that ends it gives, and that one more group carries the
 -- head on. A number is the value so far plus the scale times what the groups from here on give. Assumes nothing.
 use Prim.Native.Nat.{ℕ, suc, ◌+◌, ◌-◌, ◌*◌, ◌^◌, ◌≤◌, ◌<◌}
-use mathlib.Core.Path.{◌≡◌, refl, sym, ◌∙◌}
+use mathlib.Core.Path.{◌≡◌, refl, sym, ap, ◌∙◌}
 use mathlib.Core.List.{List, ◌∷◌}
 use mathlib.Core.Bool.{true, false, ◌&&◌}
-use mathlib.Core.Logic.{⊎_elim}
+use mathlib.Core.Logic.{◌⊎◌, ⊎_elim}
 use native.Mathlib.Omega.{arith}
 use native.Mathlib.Numerals.{add-one}
 use native.Mathlib.Nat.{zero-add, one-mul, add_assoc, mul-add, mul_assoc, pow-suc, mul-le-mul_left, pow-le-pow_right}
-use borrow.Author.Tests.{lt-ltb, le-ltb, le-leb, ltb-false}
+use borrow.Author.Tests.{lt-ltb, le-ltb, le-leb, eq-eqb}
 use lib.Dec.{leb, ltb, eqb}
-use lib.ListN.{length, get_or, drop, drop_of_length-le}
-use lib.Seq.{drop-cons}
+use lib.ListN.{length, get_or, take, drop, length-drop, drop_of_length-le}
+use lib.Seq.{take_all, drop-cons, drop-drop}
+use Rattle.std.specs.Prelude.{Ok, Err}
+use Rattle.std.proofs.lemmas.List.{get_or-drop}
 use Rattle.arithmetic.proofs.Tests.{split}
 use Rattle.numbers.specs.Parse.{Parse, got, refused}
 use Rattle.numbers.specs.Number.{above, read_groups, read_number}
-use Rattle.numbers.specs.Answers.{NumberRead}
-use Rattle.numbers.specs.declared.number.Number.TheVariants.{Value, Refused}
+use Rattle.numbers.specs.Answers.{number_of, NumberRead}
+use Rattle.numbers.specs.declared.number.NumberRefusal.{NumberRefusal}
+use Rattle.numbers.specs.declared.number.NumberRefusal.TheVariants.{BytesEnd}
+use Rattle.numbers.proofs.Codec.{not_over, not_longer}
 
 -- nothing read yet
 pub above_none : (parse : Parse ℕ) → parse ≡ above 1 0 parse
@@ -29,17 +33,12 @@ above-above : (scale value low : ℕ) (parse : Parse ℕ)
 above-above scale value low (got x left) = simp (mul-add, mul_assoc, add_assoc)
 above-above scale value low (refused r) = refl
 
--- What is known where the loop begins a turn: `from` to `at` are groups with more to follow.
-pub record Head (bytes : List ℕ) (from at scale value : ℕ) : Type 0 where
-  pub order : from ≤ at
-  pub few : at - from ≤ 4
-  pub scales : scale ≡ 128 ^ (at - from)
+-- What is known where the loop begins a turn, in the bytes from the number on: `before` groups are read, with more to follow.
+pub record Head (left : List ℕ) (before scale value : ℕ) : Type 0 where
+  pub few : before ≤ 4
+  pub scales : scale ≡ 128 ^ before
   pub small : value < scale
-  pub reads : read_number (drop from bytes) ≡ above scale value (read_groups (at - from) (drop at bytes))
-
--- the test for a fifth byte above 15 failed
-pub low_fifth : (before byte : ℕ) → (leb 4 before && ltb 15 byte) ≡ false → 4 ≤ before → byte ≤ 15
-low_fifth before byte fine fifth = ltb-false 15 byte (simp (le-leb 4 before fifth) at fine)
+  pub reads : read_number left ≡ above scale value (read_groups before (drop before left))
 
 -- With a group below 128, and below 16 if it is the fifth, a number stays in 32 bits.
 pub in_32_bits : (before scale value group : ℕ) → before ≤ 4 → scale ≡ 128 ^ before → value < scale → group < 128
@@ -58,95 +57,110 @@ in_32_bits before scale value group few scales small seven fifth =
     (split before 4)
 
 -- the first turn
-pub head_none : (bytes : List ℕ) (from : ℕ) → Head bytes from from 1 0
-head_none bytes from =
-    let none : from - from ≡ 0 = omega arith in
-    record {
-      order = omega arith;
-      few = omega arith;
-      scales = rw none;
-      small = omega arith;
-      reads = rw none (above_none (read_number (drop from bytes)));
-    }
+pub head_none : (left : List ℕ) → Head left 0 1 0
+head_none left = record { few = omega arith; scales = refl; small = omega arith; reads = above_none (read_number left) }
 
 -- the bytes end
-pub answer_cut : (bytes : List ℕ) (from at scale value : ℕ) → Head bytes from at scale value → length bytes ≤ at
-    → NumberRead bytes from (Refused 1)
+pub reads_cut : {left : List ℕ} {before scale value : ℕ} → Head left before scale value → length left ≤ before → refused 1 ≡ read_number left
 unfolding read_groups
-answer_cut bytes from at scale value head outside =
-    record { means = sym (head.reads ∙ rw (drop_of_length-le bytes outside)); within = omega arith }
+reads_cut {left} head outside = sym (head.reads ∙ rw (drop_of_length-le left outside))
 
--- A turn: the byte at `at` is read.
-pub record Turn (bytes : List ℕ) (from at scale value byte : ℕ) : Type 0 where
-  pub head : Head bytes from at scale value
-  pub inside : at < length bytes
-  pub reads : byte ≡ get_or bytes at 0
+-- A turn: the byte after those groups is read.
+pub record Turn (left : List ℕ) (before scale value byte : ℕ) : Type 0 where
+  pub head : Head left before scale value
+  pub inside : before < length left
+  pub reads : byte ≡ get_or left before 0
   pub whole : byte < 256
 
-module _ {bytes : List ℕ} {from at scale value byte : ℕ} (turn : Turn bytes from at scale value byte) where
-  starts : drop at bytes ≡ byte ∷ drop (at + 1) bytes
+module _ {left : List ℕ} {before scale value byte : ℕ} (turn : Turn left before scale value byte) where
+  starts : drop before left ≡ byte ∷ drop (before + 1) left
   starts =
-      let inside : at < length bytes = turn.inside in
-      rw (turn.reads, add-one, drop-cons bytes at 0)
+      let inside : before < length left = turn.inside in
+      rw (turn.reads, add-one, drop-cons left before 0)
 
   -- a fifth byte above 15
-  pub answer_over : (leb 4 (at - from) && ltb 15 byte) ≡ true → NumberRead bytes from (Refused 2)
+  pub reads_over : 4 ≤ before → 15 < byte → refused 2 ≡ read_number left
   unfolding read_groups
-  answer_over over = record { means = sym (turn.head.reads ∙ rw starts (simp over)); within = omega (arith, turn.inside) }
+  reads_over fifth over = sym (turn.head.reads ∙ rw starts (simp (le-leb 4 before fifth, lt-ltb 15 byte over)))
 
-  module _ (fine : (leb 4 (at - from) && ltb 15 byte) ≡ false) where
+  module _ (fine : 4 ≤ before → byte ≤ 15) where
     -- a last byte fits with the value so far
     pub last_fits : byte < 128 → value + scale * byte < 2 ^ 32
-    last_fits last =
-        in_32_bits (at - from) scale value byte turn.head.few turn.head.scales turn.head.small last
-        (low_fifth (at - from) byte fine)
+    last_fits last = in_32_bits before scale value byte turn.head.few turn.head.scales turn.head.small last fine
 
     -- a last byte of 0 above others
-    pub answer_longer : byte < 128 → (ltb 0 (at - from) && eqb byte 0) ≡ true → NumberRead bytes from (Refused 2)
+    pub reads_longer : 0 < before → byte ≡ 0 → refused 2 ≡ read_number left
     unfolding read_groups
-    answer_longer last longer =
-        record { means = sym (turn.head.reads ∙ rw starts (simp (fine, lt-ltb _ _ last, longer))); within = omega (arith, turn.inside) }
+    reads_longer above none =
+        let last : byte < 128 = omega arith in
+        sym (turn.head.reads ∙ rw starts (simp (not_over before byte fine, lt-ltb byte 128 last, lt-ltb 0 before above, eq-eqb byte 0 none)))
 
     -- the last byte of a shortest form
-    pub answer_value : byte < 128 → (ltb 0 (at - from) && eqb byte 0) ≡ false
-        → NumberRead bytes from (Value (value + scale * byte) (at + 1))
+    pub reads_value : byte < 128 → (0 < before → 0 < byte) → got (value + scale * byte) (drop (before + 1) left) ≡ read_number left
     unfolding read_groups
-    answer_value last shortest =
-        record {
-          means = sym (turn.head.reads ∙ rw starts (simp (fine, lt-ltb _ _ last, shortest)));
-          within = omega (arith, turn.inside);
-        }
+    reads_value last shortest =
+        sym (turn.head.reads ∙ rw starts (simp (not_over before byte fine, lt-ltb byte 128 last, not_longer before byte shortest)))
 
     module _ (follows : 128 ≤ byte) where
       -- where more follow, this is not the fifth
-      early : at - from < 4
-      early =
-          ⊎_elim (λ h. h)
-          (λ last. let h : byte ≤ 15 = low_fifth (at - from) byte fine last in absurd (omega arith))
-          (split (at - from) 4)
+      early : before < 4
+      early = ⊎_elim (λ h. h) (λ last. let h : byte ≤ 15 = fine last in absurd (omega arith)) (split before 4)
 
       pub more_fits : value + scale * (byte - 128) < 2 ^ 32
       more_fits =
-          in_32_bits (at - from) scale value (byte - 128) turn.head.few turn.head.scales turn.head.small
+          in_32_bits before scale value (byte - 128) turn.head.few turn.head.scales turn.head.small
           (omega (arith, turn.whole)) (λ h. absurd (omega (arith, early)))
 
       pub scale_fits : scale * 128 < 2 ^ 32
       scale_fits =
-          let h : 128 ^ (at - from) ≤ 128 ^ 3 = pow-le-pow_right {n = 128} (omega arith) {i = at - from} {j = 3} (omega (arith, early)) in
+          let h : 128 ^ before ≤ 128 ^ 3 = pow-le-pow_right {n = 128} (omega arith) {i = before} {j = 3} (omega (arith, early)) in
           omega (arith, turn.head.scales)
 
       -- a group with more to follow carries the head on
-      pub head_more : Head bytes from (at + 1) (scale * 128) (value + scale * (byte - 128))
+      pub head_more : Head left (before + 1) (scale * 128) (value + scale * (byte - 128))
       unfolding read_groups
       head_more =
-          let one_more : at + 1 - from ≡ suc (at - from) = omega (arith, turn.head.order) in
           let group : scale * (byte - 128) ≤ scale * 127 = mul-le-mul_left scale (omega (arith, turn.whole)) in
           record {
-            order = omega (arith, turn.head.order);
             few = omega (arith, early);
-            scales = rw (one_more, pow-suc, ← turn.head.scales);
+            scales = rw (add-one, pow-suc, ← turn.head.scales);
             small = omega (arith, turn.head.small);
             reads =
-                turn.head.reads ∙ rw starts (simp (fine, le-ltb _ _ follows))
-                ∙ above-above scale value (byte - 128) (read_groups (suc (at - from)) (drop (at + 1) bytes)) ∙ rw one_more;
+                turn.head.reads ∙ rw starts (simp (not_over before byte fine, le-ltb byte 128 follows))
+                ∙ above-above scale value (byte - 128) (read_groups (suc before) (drop (before + 1) left)) ∙ rw add-one;
           }
+
+-- ---- what the tests say where they fail
+
+pub low_fifth : {before byte : ℕ} → ((4 ≤ before) × (byte ≤ 15)) ⊎ (before < 4) → 4 ≤ before → byte ≤ 15
+low_fifth either fifth = ⊎_elim (λ low. low.1) (λ early. absurd (omega arith)) either
+
+pub not_none : {before byte : ℕ} → ((0 < before) × (byte ≡ 0 → ⊥)) ⊎ (before ≤ 0) → 0 < before → 0 < byte
+not_none {before} {byte} either later =
+    ⊎_elim (λ (some : (0 < before) × (byte ≡ 0 → ⊥)). let h : byte ≡ 0 → ⊥ = some.1 in omega arith) (λ first. absurd (omega arith)) either
+
+-- ---- what was read from a place on, by what the bytes from there on give
+
+pub left_is : (bytes : List ℕ) (from : ℕ) {left : List ℕ} → left ≡ take (length bytes - from) (drop from bytes) → left ≡ drop from bytes
+left_is bytes from {left} is = is ∙ take_all (length bytes - from) (drop from bytes) (omega (arith, length-drop from bytes))
+
+pub byte_whole : (bytes : List ℕ) (from : ℕ) {left : List ℕ} (before byte : ℕ) → left ≡ drop from bytes → byte ≡ get_or left before 0
+    → get_or bytes (from + before) 0 < 256 → byte < 256
+byte_whole bytes from before byte is reads whole = rw (reads, is, get_or-drop) whole
+
+module _ {bytes left : List ℕ} {from : ℕ} (is : left ≡ drop from bytes) where
+  pub refused_there : (r : NumberRefusal) → refused (number_of r) ≡ read_number left → NumberRead bytes from (Err r)
+  refused_there r reads = record { means = rw (← is) reads; within = omega arith }
+
+  pub value_there : (x before : ℕ) → before < length left → got x (drop (before + 1) left) ≡ read_number left
+      → NumberRead bytes from (Ok (record { value = x; next = from + before + 1 }))
+  value_there x before inside reads =
+      let place : from + before + 1 ≡ from + (before + 1) = omega arith in
+      record {
+        means = rw (place, ← drop-drop (before + 1) from bytes, ← is) reads;
+        within = omega (arith, ap length is, length-drop from bytes);
+      }
+
+pub none_there : (bytes : List ℕ) (from : ℕ) → length bytes ≤ from → NumberRead bytes from (Err BytesEnd)
+unfolding read_groups
+none_there bytes from outside = record { means = rw (drop_of_length-le bytes outside); within = omega arith }

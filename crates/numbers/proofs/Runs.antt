@@ -7,13 +7,14 @@ use native.Mathlib.Omega.{arith}
 use native.Mathlib.Numerals.{add-one}
 use lib.ListN.{length, take, drop, set, length-set, take-append-drop}
 use lib.Seq.{take_all, take-suc-set, length-take-le, drop-set-lt, drop-drop}
+use Rattle.std.specs.Prelude.{Ok, Err}
 use Rattle.buffers.specs.Put.{at_front}
 use Rattle.numbers.specs.Parse.{Parse, got, refused, and_then}
 use Rattle.numbers.specs.Number.{read_number}
 use Rattle.numbers.specs.Run.{read_numbers}
-use Rattle.numbers.specs.Answers.{NumberRead, readable, RunRead}
-use Rattle.numbers.specs.declared.number.Number.TheVariants.{Value, Refused as NumberRefused}
-use Rattle.numbers.specs.declared.run.Run.TheVariants.{Next, Refused}
+use Rattle.numbers.specs.Answers.{number_of, NumberRead, readable, RunRead}
+use Rattle.numbers.specs.declared.number.Number.{Number}
+use Rattle.numbers.specs.declared.number.NumberRefusal.{NumberRefusal}
 
 -- these numbers, and then those that reading gives
 abbrev pub prepend : List ℕ → Parse (List ℕ) → Parse (List ℕ)
@@ -79,7 +80,7 @@ module _ {bytes : List ℕ} {from : ℕ} {entry values : List ℕ} {at i : ℕ} 
       let few : i ≤ length values = omega (arith, head.few, head.holds) in
       rw (head.readables, none, append-nil, length-take-le i values few, ← head.past) (sym (take-append-drop i values))
 
-  pub run_done : length entry ≤ i → RunRead bytes from entry values (Next at)
+  pub run_done : length entry ≤ i → RunRead bytes from entry values (Ok at)
   unfolding read_numbers readable
   run_done done =
       let none : length entry - i ≡ 0 = omega (arith, head.few) in
@@ -93,18 +94,21 @@ module _ {bytes : List ℕ} {from : ℕ} {entry values : List ℕ} {at i : ℕ} 
     one_less : length entry - i ≡ suc (length entry - (i + 1))
     one_less = omega arith
 
-    pub run_refused : (r : ℕ) → NumberRead bytes at (NumberRefused r) → RunRead bytes from entry values (Refused r)
+    pub run_refused : (r : NumberRefusal) → NumberRead bytes at (Err r) → RunRead bytes from entry values (Err r)
     run_refused r read =
-        let stops = numbers_refused (length entry - (i + 1)) (drop at bytes) r (sym read.means) in
-        let none = readable_none (length entry - (i + 1)) (drop at bytes) r (sym read.means) in
+        let stops = numbers_refused (length entry - (i + 1)) (drop at bytes) (number_of r) (sym read.means) in
+        let none = readable_none (length entry - (i + 1)) (drop at bytes) (number_of r) (sym read.means) in
         record {
           means = sym (head.reads ∙ rw (one_less, stops));
           within = λ inside. omega arith;
           front = stands (rw one_less none);
         }
 
-    pub run_more : (x next : ℕ) → NumberRead bytes at (Value x next) → RunHead bytes from entry (set values i x) next (i + 1)
-    run_more x next read =
+    pub run_more : (number : Number) → NumberRead bytes at (Ok number)
+        → RunHead bytes from entry (set values i number.value) number.next (i + 1)
+    run_more number read =
+        let x = number.value in
+        let next = number.next in
         let place : i < length values = omega (arith, head.holds) in
         let goes_on = numbers_more (length entry - (i + 1)) (drop at bytes) x (drop next bytes) (sym read.means) in
         let one_more = readable_more (length entry - (i + 1)) (drop at bytes) x (drop next bytes) (sym read.means) in

@@ -1,84 +1,84 @@
 // Numbers of a joint file: groups of seven bits, the lowest first, the top bit set when more follow.
-ghost use Rattle.std.specs.Prelude.{◌≡◌, ◌+◌, ◌≤◌, length};
-ghost use Rattle.buffers.specs.Put.{Put};
+ghost use Rattle.std.specs.Prelude.{◌≡◌, length};
+ghost use Rattle.buffers.specs.Writing.{Puts, HasRoom};
 ghost use Rattle.numbers.specs.Number.{stored};
-ghost use Rattle.numbers.specs.Answers.{NumberRead, refusal_number};
+ghost use Rattle.numbers.specs.Answers.{NumberRead, number_of};
 
-// What reading a number answers: its value with the place after its last byte, or the refusal's number.
+use buffers::Writer;
+
+// Why a number can't be read: the bytes end within it, or it could be stored shorter or has more than 32 bits.
+#[derive(Clone, Copy, PartialEq, Eq, Debug)]
+pub enum NumberRefusal {
+    BytesEnd,
+    WrongForm,
+}
+
+impl NumberRefusal {
+    pub fn number(self) -> u32
+        ensures { result ≡ number_of self }
+    {
+        match self {
+            NumberRefusal::BytesEnd => 1,
+            NumberRefusal::WrongForm => 2,
+        }
+    }
+}
+
+// A number that was read, and the place after its last byte.
 #[derive(Clone, Copy)]
-pub enum Number {
-    Value { value: u32, next: usize },
-    Refused(u32),
+pub struct Number {
+    pub value: u32,
+    pub next: usize,
 }
 
-// A byte, as wide as the numbers that it is part of.
-fn wide(byte: u8) -> u32
-    ensures { result ≡ byte }
-{
-    byte as u32
-}
-
-// Reads the number that begins at `from`. `value` is what the groups before `at` make, and `scale` what the next one counts.
-pub fn number_at(bytes: &[u8], from: usize) -> Number
+// Reads the number that begins at `from`. `value` is what the `before` groups before this byte make, and `scale` what this one counts.
+pub fn number_at(bytes: &[u8], from: usize) -> Result<Number, NumberRefusal>
     ensures { NumberRead bytes.now from result }
 {
-    let mut at = from;
-    let mut scale: u32 = 1;
-    let mut value: u32 = 0;
-    while at < bytes.len() {
-        let byte = wide(bytes[at]);
-        let before = at - from;
-        at += 1;
-        if (4 <= before) & (15 < byte) {
-            return Number::Refused(2);
+    let Some(left) = bytes.get(from..) else {
+        return Err(NumberRefusal::BytesEnd);
+    };
+    let mut scale = 1;
+    let mut value = 0;
+    for (before, byte) in left.iter().enumerate() {
+        let byte = u32::from(*byte);
+        if 4 <= before && 15 < byte {
+            return Err(NumberRefusal::WrongForm);
         }
         if byte < 128 {
-            if (0 < before) & (byte == 0) {
-                return Number::Refused(2);
+            if 0 < before && byte == 0 {
+                return Err(NumberRefusal::WrongForm);
             }
-            return Number::Value {
+            return Ok(Number {
                 value: value + scale * byte,
-                next: at,
-            };
+                next: from + before + 1,
+            });
         }
         value += scale * (byte - 128);
         scale *= 128;
     }
-    Number::Refused(1)
-}
-
-// The refusal of an answer that is no number.
-pub fn refusal_of(number: Number) -> u32
-    ensures { result ≡ refusal_number number }
-{
-    match number {
-        Number::Value { value: _, next: _ } => 0,
-        Number::Refused(refusal) => refusal,
-    }
+    Err(NumberRefusal::BytesEnd)
 }
 
 // The count of bytes in a number's stored form: one, and one more for each seven bits that it reaches past.
 pub fn stored_length(x: u32) -> usize
     ensures { result ≡ length (stored x) }
 {
-    1 + (128 <= x) as usize
-        + (16384 <= x) as usize
-        + (2097152 <= x) as usize
-        + (268435456 <= x) as usize
+    1 + usize::from(128 <= x)
+        + usize::from(16384 <= x)
+        + usize::from(2097152 <= x)
+        + usize::from(268435456 <= x)
 }
 
-// Writes a number's stored form from `from` on, and answers the place after it. `put_numbers` shows that there is room.
-pub fn put_number(buffer: &mut [u8], from: usize, x: u32) -> usize
-    requires { from + length (stored x) ≤ length buffer.old }
-    ensures { Put buffer.old from (stored x) buffer.new result }
+// Puts a number's stored form. `put_numbers` shows that there is room.
+pub fn put_number(writer: &mut Writer, x: u32)
+    requires { HasRoom writer.old (length (stored x)) }
+    ensures { Puts writer.old (stored x) writer.new }
 {
-    let mut at = from;
     let mut left = x;
     while 128 <= left {
-        buffer[at] = (128 + left % 128) as u8;
+        writer.put((128 + left % 128) as u8);
         left /= 128;
-        at += 1;
     }
-    buffer[at] = left as u8;
-    at + 1
+    writer.put(left as u8);
 }

@@ -1,14 +1,13 @@
--- `run::all_zero` meets its contract: as long as the numbers passed are 0, the answer is that of the rest. The measure is their count.
--- Assumes nothing.
-use mathlib.Core.Path.{sym, ◌∙◌}
-use Rattle.numbers.proofs.Puts.{zero_next, zero_not, zero_end}
+-- `run::all_zero` meets its contract: the definition goes over the numbers as `all` does. Assumes nothing.
+use Rattle.std.proofs.Common.{◌∙◌, eqb, rules, tests}
+use Rattle.std.proofs.lemmas.Iterator.{YieldsList-from_slice}
+use Rattle.std.proofs.lemmas.Iterator.Search.{all_from_yields_List}
+use Rattle.numbers.proofs.Puts.{all_by_each}
 use Rattle.numbers.proofs.run.all_zero.Goals as goal
 
-pub returns-then-values-i-ne0 : goal.returns-then-values-i-ne0
-returns-then-values-i-ne0 c = sym (c.loop-i.invariant ∙ zero_not _ _ c.loop-i-test.true c.if-values-i-ne0.true)
-
-pub loop-i-preserved : goal.loop-i-preserved
-loop-i-preserved c = c.loop-i.invariant ∙ zero_next _ _ c.loop-i-test.true c.if-values-i-ne0.false
-
 pub returns : goal.returns
-returns c = sym (c.loop-i.invariant ∙ zero_end _ _ c.loop-i-test.false)
+returns c =
+    let values = c.args.values.now in
+    all_from_yields_List (λ x. eqb x 0) _ _ c.all.result c.all.ensures.ran (YieldsList-from_slice values cc)
+    (λ x b q k. search (rules, tests))
+    ∙ all_by_each values

@@ -1,28 +1,21 @@
 -- `run::numbers_at` meets its contract: the loop's head is `RunHead`, a number carries it on, and anything else is the run's refusal.
--- The measure is the count of numbers left. Assumes nothing.
-use mathlib.Core.Path.{ap, ◌∙◌}
+-- Assumes nothing.
 use native.Mathlib.Omega.{arith}
-use Rattle.numbers.specs.Answers.{refusal_number}
+use Rattle.std.proofs.lemmas.List.{set-get_or}
+use Rattle.std.proofs.lemmas.Result.{err_from_is_err_and}
 use Rattle.numbers.proofs.Runs.{run_none, run_more, run_refused, run_done}
 use Rattle.numbers.proofs.run.numbers_at.Goals as goal
 
-pub loop-i-init : goal.loop-i-init
-loop-i-init c = run_none _ _ _
+pub loop-value-init : goal.loop-value-init
+loop-value-init c = run_none _ _ _
 
-pub shape_of-values-in_default : goal.shape_of-values-in_default
-shape_of-values-in_default c = c.loop-i.invariant.holds
+pub returns-in_err-number : goal.returns-in_err-number
+returns-in_err-number c =
+    let p = err_from_is_err_and c.from_residual.result c.from_residual.ensures.1 in
+    rw (p.1, p.2, set-get_or) (run_refused c.loop-value.invariant c.loop-value-test.true _ c.in_err-number.ensures)
 
-pub returns-in_default : goal.returns-in_default
-returns-in_default c =
-    let refused = c.in_default.is in
-    let is = c.refusal_of.ensures ∙ ap refusal_number refused in
-    rw is (run_refused c.loop-i.invariant (omega arith) _ (rw refused at c.number_at-number.ensures))
-
-pub loop-i-preserved : goal.loop-i-preserved
-loop-i-preserved c = run_more c.loop-i.invariant (omega arith) _ _ (rw c.in-Value.is at c.number_at-number.ensures)
-
-pub shape_of-values : goal.shape_of-values
-shape_of-values c = c.loop-i.invariant.holds
+pub loop-value-preserved : goal.loop-value-preserved
+loop-value-preserved c = run_more c.loop-value.invariant c.loop-value-test.true _ c.in_ok-number.ensures
 
 pub returns : goal.returns
-returns c = run_done c.loop-i.invariant (omega arith)
+returns c = run_done c.loop-value.invariant (omega arith)

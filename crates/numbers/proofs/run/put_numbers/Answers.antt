@@ -1,19 +1,15 @@
--- `run::put_numbers` meets its contract: the loop's head is `PutsHead`, and a number that was put carries it on. The measure is the count
--- of numbers left. Assumes nothing.
-use Rattle.numbers.proofs.Puts.{puts_none, puts_room, puts_more, puts_done}
+-- `run::put_numbers` meets its contract: the loop's head is `PutsHead`, and a number that was put carries it on. Assumes nothing.
+use Rattle.numbers.proofs.Puts.{puts_head_none, puts_room, puts_more, puts_done}
 use Rattle.numbers.proofs.run.put_numbers.Goals as goal
 
-pub loop-done-init : goal.loop-done-init
-loop-done-init c = puts_none _ _ _
+pub loop-value-init : goal.loop-value-init
+loop-value-init c = puts_head_none _ _ c.requires
 
-pub put_number-next-requires : goal.put_number-next-requires
-put_number-next-requires c = puts_room c.loop-done.invariant c.loop-done-test.true c.requires
+pub put_number-requires : goal.put_number-requires
+put_number-requires c = puts_room c.loop-value.invariant c.loop-value-test.true
 
-pub loop-done-preserved : goal.loop-done-preserved
-loop-done-preserved c = puts_more c.loop-done.invariant c.loop-done-test.true c.put_number-next.ensures
-
-pub shape_of-buffer : goal.shape_of-buffer
-shape_of-buffer c = c.loop-done.invariant.holds
+pub loop-value-preserved : goal.loop-value-preserved
+loop-value-preserved c = puts_more c.loop-value.invariant c.loop-value-test.true c.put_number.ensures
 
 pub returns : goal.returns
-returns c = puts_done c.loop-done.invariant c.loop-done-test.false
+returns c = puts_done c.loop-value.invariant c.loop-value-test.false

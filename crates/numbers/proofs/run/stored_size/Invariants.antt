@@ -1,12 +1,9 @@
 -- What each turn of a loop keeps, and why the loop or the recursion ends.
-use Prim.Native.Nat.{◌+◌, ◌-◌}
+use Prim.Native.Nat.{◌+◌}
 use mathlib.Core.Path.{◌≡◌}
 use lib.ListN.{length, drop}
 use Rattle.numbers.specs.Run.{stored_all}
 use Rattle.numbers.proofs.run.stored_size.Given as goal
 
-abbrev pub invariant-loop-i : goal.invariant-loop-i
-invariant-loop-i l = l.size + length (stored_all (drop l.i l.values)) ≡ length (stored_all l.values)
-
-abbrev pub decreases-loop-i : goal.decreases-loop-i
-decreases-loop-i l = length l.values - l.i
+abbrev pub invariant-loop-value : goal.invariant-loop-value
+invariant-loop-value l = l.size + length (stored_all (drop l.value-index l.values)) ≡ length (stored_all l.values)
