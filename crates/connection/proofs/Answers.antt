@@ -1,34 +1,38 @@
 -- What the refusals leave: from an answer that is no refusal, that every test of the list holds, and from those tests what the limits
 -- rely on. Assumes nothing.
-use Rattle.std.specs.Prelude.{Option}
 use mathlib.Core.Path.{◌≡◌, refl, sym, ap, ◌∙◌}
 use mathlib.Core.Bool.{Bool, true, false, ◌&&◌, ◌||◌}
 use Prim.Native.Nat.{ℕ, suc}
 use native.Mathlib.Omega.{arith}
 use lib.ListN.{length}
 use lib.Dec.{ltb}
-use borrow.Author.Tests.{ltb-false, eq-eqb, not-true}
-use Rattle.arithmetic.specs.Checks.{first_failing, checks_before}
-use Rattle.arithmetic.proofs.Checks.{numbered, positive, numbered_holds}
+use borrow.Author.Tests.{ltb-false, eq-eqb}
+use Rattle.std.specs.Prelude.{List, not, Option, Some, None, Result, Ok, Err, ⊤}
+use Rattle.arithmetic.specs.Checks.{Check, first_failing, checks_before, checks_from}
+use Rattle.arithmetic.proofs.Checks.{numbered, positive, numbered_holds, one_after_another, cut_at, holds, fails, none_left}
 use Rattle.joint.specs.Ranges.{row_counts}
-use Rattle.joint.specs.Fields.{field_check}
+use Rattle.joint.specs.Fields.{FieldCheck, field_check}
 use Rattle.joint.specs.InRange.{ColumnInRange, FaceInRange, InRange}
 use Rattle.joint.specs.declared.Bolts.{Bolts}
 use Rattle.joint.specs.declared.Column.{Column}
 use Rattle.joint.specs.declared.Face.{Face}
-use Rattle.joint.specs.declared.FieldCheck.{FieldCheck}
-use Rattle.joint.specs.declared.FieldCheck.TheVariants.{AllInRange, Outside}
 use Rattle.joint.proofs.InRange.{in_range}
 use Rattle.strength.specs.declared.BoltStrengths.{BoltStrengths}
 use Rattle.spacing.specs.Spacing.{least_distance, least_edge, spacing_of}
 use Rattle.tension.specs.Admissible.{Admissible}
+use Rattle.governing.specs.Governing.{force_of}
+use Rattle.governing.specs.Cap.{newtons_of}
+use Rattle.governing.specs.Answers.{cap_case}
+use Rattle.governing.proofs.Cases.{exceeded, within_cap}
 use Rattle.refusals.specs.Refusals.{levers_fall, too_tight}
 use Rattle.refusals.proofs.Rows.{falls}
-use Rattle.outcome.specs.declared.FaceOutcome.{FaceOutcome}
-use Rattle.connection.specs.OneFace.{bolt_of}
+use Rattle.outcome.specs.Outcome.{FaceOutcome, face_meaning}
+use Rattle.outcome.specs.declared.FaceRefusal.{FaceRefusal}
+use Rattle.outcome.specs.declared.FaceRefusal.TheVariants.{NoCap}
+use Rattle.connection.specs.OneFace.{bolt_of, governing_of, cap_of}
 use Rattle.connection.specs.Connection.{refused_face, refused_after_10, refusals_after_10, completed, result_of, worked_face, worked_by}
 use Rattle.connection.specs.Connection.{worked_connection}
-use Rattle.connection.specs.declared.Admission.TheVariants.{Admitted, Refused}
+use Rattle.connection.specs.Steps.{admitted_to}
 
 neither : (a b : Bool) → (a || b) ≡ false → (a ≡ false) × (b ≡ false)
 neither false b e = (refl, e)
@@ -57,18 +61,6 @@ admissible column face c f eight falling loose =
       plate_edge = ltb-false _ least_edge edges.1;
     }
 
--- the same of a face that is admitted; panel shear has no part in that
-pub admitted : (panel_counts : Bool) (column : Column) (bolt : BoltStrengths) (face : Face) → ColumnInRange column → FaceInRange face
-    → length face.levers ≡ row_counts.high
-    → first_failing Admitted Refused (checks_before 15 (refusals_after_10 panel_counts column bolt face)) ≡ Admitted → Admissible column face
-unfolding refusals_after_10 checks_before numbered positive
-admitted panel_counts column bolt face c f eight e =
-    let all = (numbered_holds Admitted Refused Admitted apart (checks_before 15 (refusals_after_10 panel_counts column bolt face)) tt e).0 in
-    admissible column face c f eight (all 11) (not-true _ (all 13))
-  where
-    apart : (number : ℕ) → Refused (suc number) ≡ Admitted → ⊥
-    apart number same = let never : ◌≡◌ {A = ℕ} 0 1 = cc in absurd (omega arith)
-
 -- a refusal has its number
 pub refusal_is : (number field : ℕ) (answer : FaceOutcome) → refused_face number field ≡ answer → answer.number ≡ 0 → number ≡ 0
 refusal_is number field answer e none = ap (λ a. a.number) e ∙ none
@@ -94,5 +86,46 @@ in_range_of panel_counts column bolts area face answer e none = by_fields (field
     by_fields : (found : FieldCheck) → field_check column bolts area face ≡ found
         → worked_by found (worked_face panel_counts column (bolt_of bolts area) face) ≡ answer
         → InRange column bolts area face × (worked_face panel_counts column (bolt_of bolts area) face ≡ answer)
-    by_fields AllInRange found w = (in_range column bolts area face found, w)
-    by_fields (Outside field) found w = let never = refusal_is 10 field answer w none in absurd (omega arith)
+    by_fields (Ok passed) found w = (in_range column bolts area face found, w)
+    by_fields (Err wrong) found w = let never = refusal_is 10 wrong.field answer w none in absurd (omega arith)
+
+-- The list of refusals is cut at 15: those before it are tried first, and where they let a face pass 15 is left, which holds where N
+-- leaves no cap.
+module _ (panel_counts : Bool) (column : Column) (bolt : BoltStrengths) (face : Face) where
+  abbrev all : List Check
+  all = refusals_after_10 panel_counts column bolt face
+
+  abbrev passed : FaceOutcome
+  passed = completed (result_of panel_counts column bolt face)
+
+  module _ (admission : Result ⊤ FaceRefusal)
+      (first : (outcome : FaceOutcome)
+      → admitted_to outcome admission ≡ first_failing outcome refused_after_10 (checks_before 15 all)) where
+    cut : admitted_to (first_failing passed refused_after_10 (checks_from 15 all)) admission
+        ≡ worked_face panel_counts column bolt face
+    unfolding worked_face
+    cut =
+        first (first_failing passed refused_after_10 (checks_from 15 all))
+        ∙ sym (one_after_another passed refused_after_10 (checks_before 15 all) (checks_from 15 all))
+        ∙ ap (first_failing passed refused_after_10) (cut_at 15 all)
+
+    pub refused_before_15 : (refusal : FaceRefusal) → admission ≡ Err refusal
+        → face_meaning (Err refusal) ≡ worked_face panel_counts column bolt face
+    refused_before_15 refusal e = ap (admitted_to (first_failing passed refused_after_10 (checks_from 15 all))) (sym e) ∙ cut
+
+    pub by_15 : admission ≡ Ok tt
+        → first_failing passed refused_after_10 (checks_from 15 all) ≡ worked_face panel_counts column bolt face
+    by_15 e = ap (admitted_to (first_failing passed refused_after_10 (checks_from 15 all))) (sym e) ∙ cut
+
+    -- and by the cap's case
+    pub refused_15 : admission ≡ Ok tt → None ≡ cap_case face.loads (force_of (governing_of panel_counts column face))
+        → face_meaning (Err NoCap) ≡ worked_face panel_counts column bolt face
+    unfolding refusals_after_10 checks_from
+    refused_15 e none = sym (fails passed refused_after_10 15 _ _ (ap not (exceeded _ _ none))) ∙ by_15 e
+
+    pub passes_15 : admission ≡ Ok tt → (cap : ℕ) → Some cap ≡ cap_case face.loads (force_of (governing_of panel_counts column face))
+        → (passed ≡ worked_face panel_counts column bolt face) × (cap ≡ newtons_of (cap_of panel_counts column face))
+    unfolding refusals_after_10 checks_from cap_of
+    passes_15 e cap some =
+        let within = within_cap _ _ cap some in
+        (sym (holds passed refused_after_10 15 _ _ (ap not within.0) ∙ none_left _ _) ∙ by_15 e, within.1)

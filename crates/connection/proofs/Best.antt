@@ -1,8 +1,8 @@
 -- Demand 3 of the definition: a face that isn't refused has it. Its forces are shared under the limits with the cap among them, so they
 -- are the best of the lists that keep both (the theorems of `sharing`), and a larger moment carries what a smaller one does.
 -- Assumes nothing.
-use Rattle.std.specs.Prelude.{Option}
-use mathlib.Core.Path.{◌≡◌, sym, ap, ◌∙◌}
+use Rattle.std.specs.Prelude.{Option, Result, Ok, Err, IfOk}
+use mathlib.Core.Path.{◌≡◌, refl, sym, ap, ◌∙◌}
 use mathlib.Core.Bool.{Bool}
 use Prim.Native.Nat.{ℕ, suc, ◌≤◌}
 use native.Mathlib.Omega.{arith}
@@ -30,7 +30,9 @@ use Rattle.governing.specs.Cap.{newtons_of}
 use Rattle.governing.proofs.Cases.{cap_newtons}
 use Rattle.verdicts.specs.Bending.{carries}
 use Rattle.verdicts.proofs.Signs.{carries_monotone}
-use Rattle.outcome.specs.declared.FaceOutcome.{FaceOutcome}
+use Rattle.outcome.specs.Outcome.{FaceOutcome, face_meaning}
+use Rattle.outcome.specs.declared.FaceRefusal.{FaceRefusal}
+use Rattle.outcome.specs.declared.FaceResult.{FaceResult}
 use Rattle.connection.specs.OneFace.{bolt_of, rows_of, levers_of, limit_of, cap_of, forces_of, carries_of}
 use Rattle.connection.specs.Connection.{refusals_after_10, result_of, worked_face, worked_connection}
 use Rattle.connection.specs.Demand.{CompetesFor, Demand3, Demand3For, programs_list}
@@ -123,3 +125,11 @@ pub worked_demand : (panel_counts : Bool) (column : Column) (bolts : Bolts) (are
 worked_demand panel_counts column bolts area face eight answer e none =
     let taken = in_range_of panel_counts column bolts area face answer e none in
     of_face panel_counts column (bolt_of bolts area) face taken.0.column taken.0.face eight answer taken.1 none
+
+-- of an answer that meets the definition
+pub demand_of : (panel_counts : Bool) (column : Column) (bolts : Bolts) (area : Option ℕ) (face : Face)
+    → length face.levers ≡ row_counts.high
+    → (answer : Result FaceResult FaceRefusal) → face_meaning answer ≡ worked_connection panel_counts column bolts area face
+    → IfOk answer (λ result. Demand3For panel_counts column bolts area face result)
+demand_of panel_counts column bolts area face eight (Ok result) e = worked_demand panel_counts column bolts area face eight _ (sym e) refl
+demand_of panel_counts column bolts area face eight (Err refusal) e = tt

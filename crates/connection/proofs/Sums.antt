@@ -20,7 +20,7 @@ use Rattle.governing.specs.Cap.{newtons_of}
 use Rattle.governing.specs.Governing.{force_of}
 use Rattle.governing.proofs.Cases.{cap_le}
 use Rattle.governing.proofs.Least.{governing_le_bearing}
-use Rattle.outcome.specs.declared.FaceOutcome.{FaceOutcome}
+use Rattle.outcome.specs.Outcome.{FaceOutcome}
 use Rattle.connection.specs.OneFace.{bolt_of, rows_of, limit_of, steel_of, governing_of, cap_of, forces_of}
 use Rattle.connection.specs.Connection.{result_of, worked_connection}
 use Rattle.connection.proofs.Answers.{not_refused, in_range_of}

@@ -1,13 +1,10 @@
 -- Working one face (rules 11): the refusals in their order, and else the whole result. Assumes nothing.
-use Rattle.std.specs.Prelude.{ℕ, Bool, false, not, List, [], ◌∷◌, replicate, Option}
+use Rattle.std.specs.Prelude.{ℕ, Bool, not, List, [], ◌∷◌, Option, Ok, Err}
 use Rattle.arithmetic.specs.Checks.{Check, first_failing}
-use Rattle.joint.specs.Ranges.{row_counts}
-use Rattle.joint.specs.Fields.{field_check}
+use Rattle.joint.specs.Fields.{FieldCheck, field_check}
 use Rattle.joint.specs.declared.Bolts.{Bolts}
 use Rattle.joint.specs.declared.Column.{Column}
 use Rattle.joint.specs.declared.Face.{Face}
-use Rattle.joint.specs.declared.FieldCheck.{FieldCheck}
-use Rattle.joint.specs.declared.FieldCheck.TheVariants.{AllInRange, Outside}
 use Rattle.sharing.specs.Groups.{total}
 use Rattle.sharing.specs.Sharing.{newton_metres}
 use Rattle.joint.specs.Places.{eight_places}
@@ -16,23 +13,10 @@ use Rattle.strength.specs.declared.BoltStrengths.{BoltStrengths}
 use Rattle.spacing.specs.Spacing.{spacing_of}
 use Rattle.governing.specs.Governing.{force_of}
 use Rattle.governing.specs.Cap.{over_compressed, newtons_of}
-use Rattle.governing.specs.declared.CompressionCheck.TheVariants.{Flange}
 use Rattle.refusals.specs.Refusals.{levers_fall, rows_apart, rows_in_place, too_tight}
 use Rattle.connection.specs.OneFace.{bolt_of, steel_of, governing_of, cap_of, forces_of, moment_of, verdicts_of}
+use Rattle.outcome.specs.Outcome.{FaceOutcome, no_result}
 use Rattle.outcome.specs.declared.FaceResult.{FaceResult}
-use Rattle.outcome.specs.declared.FaceOutcome.{FaceOutcome}
-
--- rule 11.8: in a refusal every figure is 0, the check is F with 0, the verdicts are no; and by rule 11.1 so of a second face that there
--- isn't
-abbrev pub no_result : FaceResult
-no_result = record {
-  forces = replicate row_counts.high 0;
-  sum = 0;
-  newton_metres = 0;
-  cap = 0;
-  check = Flange 0;
-  verdicts = record { bending = false; bolts = false; flange_weld = false; web_weld = false };
-}
 
 -- a refusal of a face
 abbrev pub refused_face : (number field : ℕ) → FaceOutcome
@@ -78,8 +62,8 @@ worked_face panel_counts column bolt face =
 
 -- rule 11.2: 10 with the first field that is out of range; then the face
 abbrev pub worked_by : FieldCheck → FaceOutcome → FaceOutcome
-worked_by AllInRange outcome = outcome
-worked_by (Outside field) outcome = refused_face 10 field
+worked_by (Ok passed) outcome = outcome
+worked_by (Err found) outcome = refused_face 10 found.field
 
 -- A connection: one face, whatever its fields are, on the column with its bolts and the area that the table in force lists for them.
 unfoldable pub worked_connection : (panel_counts : Bool) → Column → Bolts → Option ℕ → Face → FaceOutcome

@@ -2,43 +2,29 @@
 // verdicts. Rows count from 0.
 #![tactic(auto)]
 
-ghost use Rattle.std.specs.Prelude.{◌≡◌, Bool, ℕ, ◌≤◌, length, get_or, take};
-ghost use Rattle.arithmetic.specs.Checks.{first_failing, checks_before, checks_from};
+ghost use Rattle.std.specs.Prelude.{◌≡◌, Bool, ℕ, ◌≤◌, get_or, take, IfOk, OnOk};
+ghost use Rattle.arithmetic.specs.Checks.{first_failing, checks_before};
 ghost use Rattle.bolttable.specs.InRange.{AreaInRange};
-ghost use Rattle.joint.specs.Ranges.{row_counts};
+ghost use Rattle.joint.specs.InRange.{ColumnInRange, FaceInRange};
 ghost use Rattle.joint.specs.Places.{eight_places};
-ghost use Rattle.compression.specs.InRange.{PartsInRange, most_bearing};
+ghost use Rattle.compression.specs.InRange.{most_bearing};
 ghost use Rattle.governing.specs.Governing.{force_of};
+ghost use Rattle.outcome.specs.Outcome.{FaceOutcome, face_meaning};
 ghost use Rattle.sharing.specs.Groups.{with_cap, most_limit};
 ghost use Rattle.sharing.specs.Sharing.{shared};
-ghost use Rattle.connection.specs.OneFace.{rows_of, limit_of, steel_of, governing_of, verdicts_of};
-ghost use Rattle.connection.specs.Connection.{no_result, refused_face, refused_after_10, refusals_after_10, result_of, completed};
-ghost use Rattle.connection.specs.Connection.{worked_face, worked_connection};
+ghost use Rattle.strength.specs.InRange.{BoltInRange};
+ghost use Rattle.tension.specs.Admissible.{Admissible};
+ghost use Rattle.connection.specs.OneFace.{rows_of, limit_of, governing_of, verdicts_of};
+ghost use Rattle.connection.specs.Connection.{refused_after_10, refusals_after_10, result_of, worked_face, worked_connection};
 ghost use Rattle.connection.specs.Demand.{Demand3For};
-ghost use Rattle.connection.specs.Steps.{measures_of, FaceAsked, AdmitAsked, AdmittedFace, FaceCap, Tallied};
-ghost use Rattle.connection.specs.declared.Admission.TheVariants.{Admitted, Refused};
+ghost use Rattle.connection.specs.Steps.{AtWork, FaceCap, Tallied, admitted_to};
 
-use arithmetic::least;
-use governing::{Cap, CompressionCheck};
-use joint::{Bolts, Column, Face, FieldCheck};
-use outcome::{FaceOutcome, FaceResult, Verdicts};
+use governing::CompressionCheck;
+use joint::{Bolts, Column, Face};
+use outcome::{FaceRefusal, FaceResult, Verdicts};
 use spacing::Spacing;
 use strength::{BoltStrengths, SteelStrengths};
 use verdicts::Tally;
-
-// What is measured of a face before it is admitted: distances about its bolts, and steel strengths.
-#[derive(Clone, Copy)]
-pub struct Measures {
-    pub spacing: Spacing,
-    pub steel: SteelStrengths,
-}
-
-// Whether a face passes the refusals tried after 10 and before 15, or the number of the first that it doesn't.
-#[derive(Clone, Copy)]
-pub enum Admission {
-    Admitted,
-    Refused(u32),
-}
 
 // Works any face on its column: the whole result, or the first refusal in their order that holds. Panel shear counts in the cap, or not.
 // The row forces are the best there are: demand 3, in specs/Demand.antt. Open for Work and the exported calls, which have the area from a
@@ -49,214 +35,159 @@ pub fn work_connection(
     bolts: Bolts,
     area: Option<u32>,
     face: Face,
-) -> FaceOutcome
+) -> Result<FaceResult, FaceRefusal>
     requires { AreaInRange bolts.diameter area }
-    ensures equals { result ≡ worked_connection panel_counts column bolts area face }
-    ensures demand { result.number ≡ 0 → Demand3For panel_counts column bolts area face result.result }
+    ensures equals { face_meaning result ≡ worked_connection panel_counts column bolts area face }
+    ensures demand { IfOk result (λ worked. Demand3For panel_counts column bolts area face worked) }
 {
-    let found = joint::check_fields(column, bolts, area, face);
-    match found {
-        FieldCheck::Outside(field) => refused(10, field),
-        FieldCheck::AllInRange => {
-            let bolt = strength::bolt_strengths(bolts, area.unwrap_or(0));
-            work_face(panel_counts, column, bolt, face)
+    joint::check_fields(column, bolts, area, face)?;
+    let bolt = strength::bolt_strengths(bolts, area.unwrap_or(0));
+    FaceAtWork::new(column, bolt, face).work(panel_counts)
+}
+
+// A face in range on its column, with the figures of its bolts, and what is measured of it before it is admitted: the distances about its
+// bolts, and its steel strengths.
+#[derive(Clone, Copy)]
+struct FaceAtWork {
+    column: Column,
+    bolt: BoltStrengths,
+    face: Face,
+    spacing: Spacing,
+    steel: SteelStrengths,
+    ghost at_work: { AtWork column bolt face spacing steel },
+}
+
+impl FaceAtWork {
+    fn new(column: Column, bolt: BoltStrengths, face: Face) -> FaceAtWork
+        requires { ColumnInRange column × BoltInRange bolt × FaceInRange face }
+        ensures { (result.column ≡ column) × (result.bolt ≡ bolt) × (result.face ≡ face) }
+    {
+        FaceAtWork {
+            column,
+            bolt,
+            face,
+            spacing: spacing::spacing_of(column, face),
+            steel: strength::steel_strengths(column, face.beam, face.plate),
         }
     }
-}
 
-fn refused(number: u32, field: u32) -> FaceOutcome
-    ensures { result ≡ refused_face number field }
-{
-    FaceOutcome {
-        number,
-        field,
-        result: no_result(),
+    fn work(&self, panel_counts: bool) -> Result<FaceResult, FaceRefusal>
+        ensures { face_meaning result ≡ worked_face panel_counts self.now.column self.now.bolt self.now.face }
+    {
+        self.admit()?;
+        let check = self.governing(panel_counts);
+        let cap = governing::tension_cap(check.force(), self.face.loads).ok_or(FaceRefusal::NoCap)?;
+        Ok(self.result(check, cap))
     }
-}
 
-// What shows of a face in a refusal, and of a second one that there isn't.
-pub fn no_result() -> FaceResult
-    ensures { result ≡ no_result }
-{
-    FaceResult {
-        forces: [0; 8],
-        sum: 0,
-        newton_metres: 0,
-        cap: 0,
-        check: CompressionCheck::Flange(0),
-        verdicts: Verdicts {
-            bending: false,
-            bolts: false,
-            flange_weld: false,
-            web_weld: false,
-        },
+    // The refusals tried after 10 and before 15.
+    #[tactic(auto, unfolding(crate::specs::Connection::refusals_after_10, arithmetic::specs::Checks::checks_before, arithmetic::specs::Checks::first_failing,))]
+    fn admit(&self) -> Result<(), FaceRefusal>
+        ensures value { (panel_counts : Bool) (outcome : FaceOutcome) → admitted_to outcome result
+            ≡ first_failing outcome refused_after_10
+            (checks_before 15 (refusals_after_10 panel_counts self.now.column self.now.bolt self.now.face)) }
+        ensures admissible { OnOk result (Admissible self.now.column self.now.face) }
+    {
+        let face = self.face;
+        let pitch = refusals::least_pitch(face.rows as usize, face.levers);
+        if pitch < 1 {
+            return Err(FaceRefusal::LeversDontFall);
+        }
+        if pitch < 25 * self.bolt.diameter {
+            return Err(FaceRefusal::RowsTooClose);
+        }
+        if !refusals::rows_in_place(face) {
+            return Err(FaceRefusal::RowOutOfPlace);
+        }
+        if refusals::too_tight(face.extended, self.spacing) {
+            return Err(FaceRefusal::TooTight);
+        }
+        if strength::both_too_thick(self.column, face.plate, self.steel, self.bolt) {
+            return Err(FaceRefusal::TooThick);
+        }
+        Ok(())
     }
-}
 
-// A face whose fields are in range. That it has eight levers is promised too: of an array that is a field the caller doesn't know it.
-fn work_face(panel_counts: bool, column: Column, bolt: BoltStrengths, face: Face) -> FaceOutcome
-    requires { FaceAsked column bolt face }
-    ensures { (result ≡ worked_face panel_counts column bolt face) × (length face.levers ≡ row_counts.high) }
-{
-    let measures = measures_of(column, face);
-    let admission = admit(column, bolt, face, measures);
-    match admission {
-        Admission::Refused(number) => refused(number, 0),
-        Admission::Admitted => work_admitted(panel_counts, column, bolt, face, measures),
+    fn governing(&self, panel_counts: bool) -> CompressionCheck
+        ensures { (result ≡ governing_of panel_counts self.now.column self.now.face) × (force_of result ≤ most_bearing) }
+    {
+        let face = self.face;
+        let resistances = compression::resistances_of(
+            self.steel,
+            self.column,
+            face.beam,
+            face.plate,
+            face.welds,
+        );
+        governing::governing_check(panel_counts, resistances)
     }
-}
 
-fn measures_of(column: Column, face: Face) -> Measures
-    ensures { result ≡ measures_of column face }
-{
-    Measures {
-        spacing: spacing::spacing_of(column, face),
-        steel: strength::steel_strengths(column, face.beam, face.plate),
+    // The whole result of a face that isn't refused, by its governing check and its cap.
+    fn result(&self, check: CompressionCheck, cap: u64) -> FaceResult
+        requires { Admissible self.now.column self.now.face }
+        ensures { (panel_counts : Bool) → FaceCap panel_counts self.now.column self.now.face check cap
+            → result ≡ result_of panel_counts self.now.column self.now.bolt self.now.face }
+    {
+        let forces = self.row_forces(cap);
+        let tally = verdicts::tally_forces(self.face.rows as usize, self.face.levers, forces);
+        FaceResult {
+            forces,
+            sum: tally.sum,
+            newton_metres: tally.moment / 10000,
+            cap,
+            check,
+            verdicts: self.judge(forces, tally),
+        }
     }
-}
 
-// The refusals tried after 10 and before 15.
-fn admit(column: Column, bolt: BoltStrengths, face: Face, measures: Measures) -> Admission
-    requires { AdmitAsked column bolt face measures }
-    ensures value { (panel_counts : Bool)
-        → result ≡ first_failing Admitted Refused (checks_before 15 (refusals_after_10 panel_counts column bolt face)) }
-    ensures levers_len { length face.levers ≡ row_counts.high }
-{
-    let levers = face.levers;
-    let pitch = refusals::least_pitch(face.rows as usize, levers);
-    if pitch < 1 {
-        return Admission::Refused(11);
+    // The forces of the rows, under the limits of all groups and the cap on them together.
+    fn row_forces(&self, cap: u64) -> [u64; 8]
+        requires { Admissible self.now.column self.now.face }
+        ensures value { result
+            ≡ eight_places (shared (with_cap (limit_of self.now.column self.now.bolt self.now.face) (rows_of self.now.face) cap)
+            (rows_of self.now.face)) }
+        ensures by_index { (k : ℕ) → get_or result k 0 ≤ most_limit }
+    {
+        let rows = self.face.rows as usize;
+        let whole = rows - 1;
+        let mut limits = [0u64; 36];
+        tension::group_limits(
+            self.column,
+            self.face,
+            self.spacing,
+            self.steel,
+            self.bolt.pair_tension,
+            &mut limits,
+        );
+        limits[whole] = limits[whole].min(cap);
+        allocation::share(rows, &limits)
     }
-    if pitch < 25 * bolt.diameter {
-        return Admission::Refused(19);
-    }
-    if !refusals::rows_in_place(face) {
-        return Admission::Refused(12);
-    }
-    if refusals::too_tight(face.extended, measures.spacing) {
-        return Admission::Refused(13);
-    }
-    if strength::both_too_thick(column, face.plate, measures.steel, bolt) {
-        return Admission::Refused(14);
-    }
-    Admission::Admitted
-}
 
-// A face that those let pass: refused by 15 where N leaves no cap, and else worked whole.
-fn work_admitted(
-    panel_counts: bool,
-    column: Column,
-    bolt: BoltStrengths,
-    face: Face,
-    measures: Measures,
-) -> FaceOutcome
-    requires { AdmittedFace column bolt face measures }
-    ensures { result
-        ≡ first_failing (completed (result_of panel_counts column bolt face)) refused_after_10
-        (checks_from 15 (refusals_after_10 panel_counts column bolt face)) }
-{
-    let check = governing_of(panel_counts, column, face, measures.steel);
-    let cap_case = governing::tension_cap(governing::force_of(check), face.loads);
-    let Cap::Newtons(cap) = cap_case else {
-        return refused(15, 0);
-    };
-    FaceOutcome {
-        number: 0,
-        field: 0,
-        result: result_of(column, bolt, face, measures, check, cap),
-    }
-}
-
-fn governing_of(
-    panel_counts: bool,
-    column: Column,
-    face: Face,
-    steel: SteelStrengths,
-) -> CompressionCheck
-    requires { PartsInRange steel column face.beam face.plate face.welds × (steel ≡ steel_of column face) }
-    ensures { (result ≡ governing_of panel_counts column face) × (force_of result ≤ most_bearing) }
-{
-    let resistances = compression::resistances_of(steel, column, face.beam, face.plate, face.welds);
-    governing::governing_check(panel_counts, resistances)
-}
-
-// The whole result of a face that isn't refused, by its governing check and its cap.
-fn result_of(
-    column: Column,
-    bolt: BoltStrengths,
-    face: Face,
-    measures: Measures,
-    check: CompressionCheck,
-    cap: u64,
-) -> FaceResult
-    requires { AdmittedFace column bolt face measures }
-    ensures { (panel_counts : Bool) → FaceCap panel_counts column face check cap → result ≡ result_of panel_counts column bolt face }
-{
-    let levers = face.levers;
-    let forces = row_forces(column, bolt, face, measures, cap);
-    let tally = verdicts::tally_forces(face.rows as usize, levers, forces);
-    FaceResult {
-        forces,
-        sum: tally.sum,
-        newton_metres: tally.moment / 10000,
-        cap,
-        check,
-        verdicts: judge(column, bolt, face, measures, forces, tally),
-    }
-}
-
-// The forces of a face's rows, under the limits of all groups and the cap on them together.
-fn row_forces(
-    column: Column,
-    bolt: BoltStrengths,
-    face: Face,
-    measures: Measures,
-    cap: u64,
-) -> [u64; 8]
-    requires { AdmittedFace column bolt face measures }
-    ensures value { result ≡ eight_places (shared (with_cap (limit_of column bolt face) (rows_of face) cap) (rows_of face)) }
-    ensures by_index { (k : ℕ) → get_or result k 0 ≤ most_limit }
-{
-    let rows = face.rows as usize;
-    let whole = rows - 1;
-    let mut limits = [0u64; 36];
-    tension::group_limits(
-        column,
-        face,
-        measures.spacing,
-        measures.steel,
-        bolt.pair_tension,
-        &mut limits,
-    );
-    limits[whole] = least(limits[whole], cap);
-    allocation::share(rows, &limits)
-}
-
-// The four verdicts on a face's forces.
-fn judge(
-    column: Column,
-    bolt: BoltStrengths,
-    face: Face,
-    measures: Measures,
-    forces: [u64; 8],
-    tally: Tally,
-) -> Verdicts
-    requires { Tallied column bolt face measures forces tally }
-    ensures { result ≡ verdicts_of column bolt face (take (rows_of face) forces) }
-{
-    let beam = face.beam;
-    let plate = face.plate;
-    let weld = strength::weld_strength(beam.grade, plate.grade);
-    let idle = ((face.rows + face.shear_rows) as u64) - tally.pulling;
-    Verdicts {
-        bending: verdicts::carries_moment(face.loads, beam, tally.moment),
-        bolts: verdicts::bolts_carry(bolt, column, plate, tally.pulling, idle, face.loads.shear),
-        flange_weld: verdicts::flange_weld(
-            face,
-            measures.steel.beam,
-            weld,
-            verdicts::top_rows(face.extended, forces),
-        ),
-        web_weld: verdicts::web_weld(face, weld),
+    // The four verdicts on the forces.
+    fn judge(&self, forces: [u64; 8], tally: Tally) -> Verdicts
+        requires { Tallied self.now.face forces tally }
+        ensures { result ≡ verdicts_of self.now.column self.now.bolt self.now.face (take (rows_of self.now.face) forces) }
+    {
+        let face = self.face;
+        let weld = strength::weld_strength(face.beam.grade, face.plate.grade);
+        let idle = ((face.rows + face.shear_rows) as u64) - tally.pulling;
+        Verdicts {
+            bending: verdicts::carries_moment(face.loads, face.beam, tally.moment),
+            bolts: verdicts::bolts_carry(
+                self.bolt,
+                self.column,
+                face.plate,
+                tally.pulling,
+                idle,
+                face.loads.shear,
+            ),
+            flange_weld: verdicts::flange_weld(
+                face,
+                self.steel.beam,
+                weld,
+                verdicts::top_rows(face.extended, forces),
+            ),
+            web_weld: verdicts::web_weld(face, weld),
+        }
     }
 }

@@ -5,6 +5,7 @@ ghost use Rattle.std.specs.Prelude.{◌≡◌};
 ghost use Rattle.outcome.specs.Outcome.{number_of, field_of_refusal, face_number};
 
 use governing::CompressionCheck;
+use joint::OutOfRange;
 
 // Whether a face passes each check.
 #[derive(Clone, Copy)]
@@ -67,6 +68,16 @@ impl FaceRefusal {
             FaceRefusal::OutOfRange(field) => field,
             _ => 0,
         }
+    }
+}
+
+impl From<OutOfRange> for FaceRefusal {
+    ghost use Rattle.outcome.specs.declared.FaceRefusal.TheVariants.{OutOfRange};
+
+    ghost from_gives = { λ found refusal. refusal ≡ OutOfRange found.field };
+
+    fn from(found: OutOfRange) -> FaceRefusal {
+        FaceRefusal::OutOfRange(found.field)
     }
 }
 

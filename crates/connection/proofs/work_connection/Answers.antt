@@ -1,37 +1,47 @@
 -- `work_connection` meets its contract: a field out of range is refusal 10, and else what the face comes to; and an answer that is no
 -- refusal has demand 3, as the definition has it. Assumes nothing.
+use Rattle.std.proofs.Common.{rules, Err, length}
 use mathlib.Core.Path.{◌≡◌, sym, ap, ◌∙◌}
-use native.Mathlib.Omega.{arith}
+use Rattle.joint.specs.Ranges.{row_counts}
 use Rattle.joint.proofs.InRange.{in_range}
 use Rattle.strength.specs.Bolt.{bolt_strengths}
+use Rattle.strength.specs.declared.BoltStrengths.{BoltStrengths}
 use Rattle.strength.proofs.Ranges.{bolt_in_range}
+use Rattle.outcome.specs.Outcome.{FaceOutcome, face_meaning}
+use Rattle.outcome.specs.declared.FaceRefusal.TheVariants.{OutOfRange}
 use Rattle.connection.specs.OneFace.{bolt_of}
 use Rattle.connection.specs.Connection.{worked_face, worked_by, worked_connection}
-use Rattle.connection.proofs.Answers.{refusal_is}
-use Rattle.connection.proofs.Best.{worked_demand}
+use Rattle.connection.proofs.Best.{demand_of}
 use Rattle.connection.proofs.work_connection.Goals as goal
+use Rattle.connection.proofs.work_connection.Goals.{After-bolt_strengths-bolt}
 
-pub work_face-requires : goal.work_face-requires
-work_face-requires c =
-    let figures : let a = c.args in c.bolt_strengths-bolt.result ≡ bolt_of a.bolts a.area = c.bolt_strengths-bolt.ensures ∙ ap (bolt_strengths c.args.bolts) c.unwrap_or.ensures in
-    let a = c.args in
-    let r = in_range a.column a.bolts a.area a.face (sym c.check_fields-found.ensures ∙ c.in-AllInRange.is) in
-    record { column = r.column; bolt = rw figures (bolt_in_range a.bolts a.area r.bolts c.requires); face = r.face }
-
-pub returns-in-Outside : goal.returns-in-Outside
+pub returns-in_err-check_fields-clause-equals : goal.returns-in_err-check_fields-clause-equals
 unfolding worked_connection
-returns-in-Outside c =
+returns-in_err-check_fields-clause-equals c =
     let a = c.args in
-    let found = sym c.in-Outside.is ∙ c.check_fields-found.ensures in
-    let face = worked_face a.panel_counts a.column (bolt_of a.bolts a.area) a.face in record { equals = c.refused.ensures ∙ ap (λ check. worked_by check face) found; demand = (λ none. absurd (omega (arith, refusal_is 10 _ _ (sym c.refused.ensures) none))) }
-
-pub returns-in-AllInRange : goal.returns-in-AllInRange
-unfolding worked_connection
-returns-in-AllInRange c =
-    let figures : let a = c.args in c.bolt_strengths-bolt.result ≡ bolt_of a.bolts a.area = c.bolt_strengths-bolt.ensures ∙ ap (bolt_strengths c.args.bolts) c.unwrap_or.ensures in
-    let a = c.args in
-    let found = sym c.in-AllInRange.is ∙ c.check_fields-found.ensures in
+    let told : c.from_residual.result ≡ Err (OutOfRange c.in_err-check_fields.field-0.0.field) = search rules in
     let face = worked_face a.panel_counts a.column (bolt_of a.bolts a.area) a.face in
-    let e = c.work_face.ensures.0 ∙ ap (λ bolt. worked_face a.panel_counts a.column bolt a.face) figures
-    ∙ ap (λ check. worked_by check face) found in
-    record { equals = e; demand = worked_demand a.panel_counts a.column a.bolts a.area a.face c.work_face.ensures.1 _ (sym e) }
+    ap face_meaning told ∙ ap (λ found. worked_by found face) (sym c.in_err-check_fields.was ∙ c.check_fields.ensures)
+
+figures : (c : After-bolt_strengths-bolt) → c.bolt_strengths-bolt.result ≡ bolt_of c.args.bolts c.args.area
+figures c = c.bolt_strengths-bolt.ensures ∙ ap (bolt_strengths c.args.bolts) c.unwrap_or.ensures
+
+pub new-requires : goal.new-requires
+new-requires c =
+    let here = (goal.at.new-requires c).After-bolt_strengths-bolt in
+    let a = c.args in
+    let known = in_range a.column a.bolts a.area a.face (sym c.check_fields.ensures ∙ c.in_ok-check_fields.was) in
+    (known.column, rw (figures here) (bolt_in_range a.bolts a.area known.bolts c.requires), known.face)
+
+pub returns : goal.returns
+unfolding worked_connection
+returns c =
+    let here = (goal.at.returns c).After-bolt_strengths-bolt in
+    let a = c.args in
+    let eight : length a.face.levers ≡ row_counts.high = search rules in
+    let work : BoltStrengths → FaceOutcome = λ bolt. worked_face a.panel_counts a.column bolt a.face in
+    let own : worked_face a.panel_counts c.new.result.column c.new.result.bolt c.new.result.face ≡ work (bolt_of a.bolts a.area) =
+    λ i. worked_face a.panel_counts (c.new.ensures.0 i) ((c.new.ensures.1 ∙ figures here) i) (c.new.ensures.2 i) in
+    let equals = c.work.ensures ∙ own
+    ∙ ap (λ found. worked_by found (work (bolt_of a.bolts a.area))) (sym c.in_ok-check_fields.was ∙ c.check_fields.ensures) in
+    record { equals = equals; demand = demand_of a.panel_counts a.column a.bolts a.area a.face eight _ equals }
