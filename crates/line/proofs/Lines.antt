@@ -3,31 +3,56 @@ use Prim.Native.Nat.{ℕ, ◌+◌, ◌*◌, ◌≤◌, min}
 use mathlib.Core.Path.{◌≡◌, refl, sym, ap, ◌∙◌}
 use mathlib.Core.List.{List, [], ◌∷◌, ◌++◌, map, append_assoc, append-nil}
 use mathlib.Core.Bool.{Bool, true, false, cond}
+use Rattle.std.specs.Prelude.{Option, Some, None, Result, Ok, Err}
 use native.Mathlib.Omega.{arith}
 use borrow.Author.Tests.{eq-eqb, ne_eqb}
 use lib.Dec.{eqb}
 use lib.ListN.{length, take, length-append, length-take}
 use Rattle.outcome.specs.declared.FaceResult.{FaceResult}
-use Rattle.outcome.specs.declared.Outcome.{Outcome}
-use Rattle.outcome.specs.declared.PanelVerdict.{PanelVerdict}
-use Rattle.outcome.specs.declared.PanelVerdict.TheVariants.{NotAsked, Passes, Fails}
-use Rattle.outcome.specs.declared.Refusal.{Refusal}
+use Rattle.outcome.specs.declared.FaceRefusal.{FaceRefusal}
+use Rattle.outcome.specs.declared.FaceRefusal.TheVariants.{OutOfRange, LeversDontFall, RowsTooClose, RowOutOfPlace, TooTight, TooThick, NoCap}
+use Rattle.outcome.specs.declared.JointRefusal.{JointRefusal}
+use Rattle.outcome.specs.declared.SecondFace.{SecondFace}
+use Rattle.outcome.specs.declared.Worked.{Worked}
+use Rattle.outcome.specs.Outcome.{Outcome, PanelVerdict, NotAsked, Passes, Fails, Refusal, number_of, outcome_meaning}
 use Rattle.items.specs.Digits.{decimal}
 use Rattle.items.specs.Items.{spaced, letter}
 use Rattle.items.proofs.Numerals.{decimal_short}
 use Rattle.items.proofs.Items.{items, items_append, items_short, letters_size, spaced-append}
+use Rattle.line.specs.Steps.{refusal_begun, field_items, face_items, panel_verdict}
 use Rattle.line.specs.Longest.{letter_count, most_line}
-use Rattle.line.specs.Line.{Line, letters_of, figures_of, row_forces, is_asked, panel_letter, shown_letters, result_line, refusal_line}
+use Rattle.line.specs.Line.{Line, verdict_letter, letters_of, figures_of, row_forces, is_asked, panel_letter, shown_letters, result_line, refusal_line}
 use Rattle.line.specs.Line.{refusal_items, face_lines, outcome_lines, concatenated}
 
 -- ---- what a line is made of
 
-module _ (number : ℕ) (shown : List ℕ) where
-  pub refusal_parts : refusal_line number shown
-      ≡ decimal number ++ (items letter (82 ∷ []) ++ (items decimal shown ++ (10 ∷ [])))
-  unfolding refusal_line spaced
-  refusal_parts = refl
+pub read_parts : (number refusal : ℕ) → refusal_line number (refusal ∷ []) ≡ refusal_begun number refusal ++ (10 ∷ [])
+unfolding refusal_line spaced
+read_parts number refusal = sym (append_assoc (decimal number) _ _)
 
+refusal_more : (number refusal : ℕ) (field face : List ℕ)
+    → refusal_line number (refusal ∷ (field ++ face))
+    ≡ refusal_begun number refusal ++ (items decimal field ++ (items decimal face ++ (10 ∷ [])))
+unfolding refusal_line spaced
+refusal_more number refusal field face = simp (items_append, append_assoc, append-nil)
+
+pub work_parts : {told : ℕ} (number : ℕ) (refused : JointRefusal) → told ≡ number_of refused.refusal
+    → refusal_line number (refusal_items (outcome_meaning (Err refused)).refusal)
+    ≡ refusal_begun number told ++ (items decimal (field_items refused.refusal) ++ (items decimal (face_items refused.face) ++ (10 ∷ [])))
+unfolding refusal_items
+work_parts number refused tells =
+    rw tells (refusal_more number (number_of refused.refusal) (field_items refused.refusal) (face_items refused.face))
+
+pub field_none : (refusal : FaceRefusal) → ((field : ℕ) → refusal ≡ OutOfRange field → ⊥) → field_items refusal ≡ []
+field_none (OutOfRange field) not = absurd (not field refl)
+field_none LeversDontFall not = refl
+field_none RowsTooClose not = refl
+field_none RowOutOfPlace not = refl
+field_none TooTight not = refl
+field_none TooThick not = refl
+field_none NoCap not = refl
+
+module _ (number : ℕ) (shown : List ℕ) where
   pub refusal_size : length (refusal_line number shown) ≡ length (decimal number) + length (items decimal shown) + 3
   unfolding refusal_line spaced
   refusal_size = rw (length-append (decimal number)) (rw (length-append (items decimal shown)) (omega arith))
@@ -35,26 +60,29 @@ module _ (number : ℕ) (shown : List ℕ) where
   pub refusal_short : length shown ≤ 3 → length (refusal_line number shown) ≤ most_line
   refusal_short few = omega (arith, refusal_size, decimal_short number, items_short shown)
 
--- the joint's number, its row count and the forces of its rows
-abbrev pub opening : (number rows : ℕ) (forces : List ℕ) → List ℕ
-opening number rows forces = decimal number ++ items decimal (rows ∷ row_forces rows forces)
-
-pub opening_parts : (number rows : ℕ) (forces : List ℕ)
-    → opening number rows forces ≡ decimal number ++ (items decimal (rows ∷ []) ++ items decimal (row_forces rows forces))
-opening_parts number rows forces =
-    ap (λ (l : List ℕ). decimal number ++ l) (items_append decimal (rows ∷ []) (row_forces rows forces))
+pub rows_parts : {count : ℕ} (rows : ℕ) (forces : List ℕ) → count ≡ min rows 8
+    → items decimal (rows ∷ row_forces rows forces) ≡ items decimal (rows ∷ []) ++ items decimal (take count forces)
+rows_parts rows forces shown = rw shown (items_append decimal (rows ∷ []) (row_forces rows forces))
 
 three_parts : (first : List ℕ) (a b c : List (List ℕ)) (end : List ℕ)
-    → first ++ (spaced (a ++ (b ++ c)) ++ end) ≡ (first ++ spaced a) ++ (spaced b ++ (spaced c ++ end))
+    → first ++ (spaced (a ++ (b ++ c)) ++ end) ≡ first ++ (spaced a ++ (spaced b ++ (spaced c ++ end)))
 three_parts first a b c end = simp (spaced-append, append_assoc)
 
 -- ---- the letters
 
--- the panel's stands last in its place, where it is shown
-pub letters_shown : (result : FaceResult) (panel : PanelVerdict)
-    → take (letter_count panel) (letters_of result ++ (panel_letter panel ∷ [])) ≡ shown_letters result panel
-letters_shown result panel =
-    elim panel as (λ p. take (letter_count p) (letters_of result ++ (panel_letter p ∷ [])) ≡ shown_letters result p) [ NotAsked ↦ refl | Passes ↦ refl | Fails ↦ refl ]
+-- the face's own, and then the panel's, where it is shown
+pub letters_parts : {own : List ℕ} (result : FaceResult) (panel : PanelVerdict) → own ≡ letters_of result
+    → items letter (shown_letters result panel) ≡ items letter own ++ items letter (cond (is_asked panel) (panel_letter panel ∷ []) [])
+letters_parts result panel is = rw is (items_append letter (letters_of result) _)
+
+pub panel_shown : {panel : Option Bool} {passes : Bool} {shown : ℕ} → panel ≡ Some passes → shown ≡ verdict_letter passes
+    → cond (is_asked (panel_verdict panel)) (panel_letter (panel_verdict panel) ∷ []) [] ≡ shown ∷ []
+panel_shown {passes = passes} is shows = rw (is, shows) (go passes)
+  where
+    go : (passes : Bool)
+        → cond (is_asked (panel_verdict (Some passes))) (panel_letter (panel_verdict (Some passes)) ∷ []) [] ≡ verdict_letter passes ∷ []
+    go true = refl
+    go false = refl
 
 pub letters_few : (panel : PanelVerdict) → letter_count panel ≤ 6
 letters_few panel = elim panel as (λ p. letter_count p ≤ 6) [ NotAsked ↦ omega arith | Passes ↦ omega arith | Fails ↦ omega arith ]
@@ -67,8 +95,9 @@ letters_count result panel =
 
 module _ (number rows : ℕ) (result : FaceResult) (panel : PanelVerdict) where
   pub result_parts : result_line number rows result panel
-      ≡ opening number rows result.forces
-      ++ (items decimal (figures_of result) ++ (items letter (shown_letters result panel) ++ (10 ∷ [])))
+      ≡ decimal number
+      ++ (items decimal (rows ∷ row_forces rows result.forces)
+      ++ (items decimal (figures_of result) ++ (items letter (shown_letters result panel) ++ (10 ∷ []))))
   unfolding result_line
   result_parts =
       three_parts (decimal number) (map decimal (rows ∷ row_forces rows result.forces)) (map decimal (figures_of result))
@@ -84,7 +113,7 @@ module _ (number rows : ℕ) (result : FaceResult) (panel : PanelVerdict) where
       (omega (arith, letters_size (shown_letters result panel), letters_count result panel)))
     where
       four_sizes : (a b c d : List ℕ) → length d ≡ 2 * letter_count panel
-          → length ((a ++ b) ++ (c ++ (d ++ (10 ∷ [])))) ≡ length a + length b + length c + 2 * letter_count panel + 1
+          → length (a ++ (b ++ (c ++ (d ++ (10 ∷ []))))) ≡ length a + length b + length c + 2 * letter_count panel + 1
       four_sizes a b c d letters = simp length-append (omega arith)
 
   pub result_short : length (result_line number rows result panel) ≤ most_line
@@ -99,28 +128,9 @@ module _ (number rows : ℕ) (result : FaceResult) (panel : PanelVerdict) where
         letters_few panel,
       )
 
--- ---- what a refusal shows, case by case
+-- ---- what a refusal shows
 
 module _ (refusal : Refusal) where
-  pub items_field : eqb refusal.number 10 ≡ true
-      → take (2 + cond (eqb refusal.face 0) 0 1) (refusal.number ∷ refusal.field ∷ refusal.face ∷ []) ≡ refusal_items refusal
-  unfolding refusal_items
-  items_field ten = rw ten (go (eqb refusal.face 0))
-    where
-      go : (t : Bool) → take (2 + cond t 0 1) (refusal.number ∷ refusal.field ∷ refusal.face ∷ [])
-          ≡ refusal.number ∷ refusal.field ∷ cond t [] (refusal.face ∷ [])
-      go true = refl
-      go false = refl
-
-  pub items_number : eqb refusal.number 10 ≡ false
-      → take (1 + cond (eqb refusal.face 0) 0 1) (refusal.number ∷ refusal.face ∷ 0 ∷ []) ≡ refusal_items refusal
-  unfolding refusal_items
-  items_number other = rw other (go (eqb refusal.face 0))
-    where
-      go : (t : Bool) → take (1 + cond t 0 1) (refusal.number ∷ refusal.face ∷ 0 ∷ []) ≡ refusal.number ∷ cond t [] (refusal.face ∷ [])
-      go true = refl
-      go false = refl
-
   items_few : length (refusal_items refusal) ≤ 3
   unfolding refusal_items
   items_few = go (eqb refusal.number 10) (eqb refusal.face 0)
@@ -176,25 +186,6 @@ module _ (number rows other_rows : ℕ) (outcome : Outcome) where
   unfolding outcome_lines
   outcome_refusal some = rw (ne_eqb outcome.refusal.number 0 some) (one_line _)
 
-  pub one_face : is_asked outcome.panel ≡ false
-      → concatenated (face_lines number rows other_rows outcome) ≡ result_line number rows outcome.result outcome.panel
-  one_face alone = rw alone (one_line _)
-
-  pub two_faces : is_asked outcome.panel ≡ true
-      → concatenated (face_lines number rows other_rows outcome)
-      ≡ result_line number rows outcome.result outcome.panel ++ result_line number other_rows outcome.other outcome.panel
-  unfolding concatenated
-  two_faces both = rw both (ap (λ (l : List ℕ). result_line number rows outcome.result outcome.panel ++ l) (append-nil _))
-
-  -- where there is room for the lines there is for the first
-  pub first_room : (at room : ℕ) → at + length (concatenated (face_lines number rows other_rows outcome)) ≤ room
-      → at + length (result_line number rows outcome.result outcome.panel) ≤ room
-  unfolding concatenated
-  first_room at room all =
-      let first = result_line number rows outcome.result outcome.panel in
-      let second = cond (is_asked outcome.panel) (result_line number other_rows outcome.other outcome.panel ∷ []) [] in
-      omega (arith, length-append first (concatenated second))
-
   -- there are two lines at most, and one where the panel isn't asked
   pub outcome_few : length (outcome_lines number rows other_rows outcome) ≤ cond (is_asked outcome.panel) 2 1
   unfolding outcome_lines
@@ -208,3 +199,43 @@ module _ (number rows other_rows : ℕ) (outcome : Outcome) where
       each_short _ _ _ (eqb outcome.refusal.number 0) (is_asked outcome.panel)
       (result_short number rows outcome.result outcome.panel) (result_short number other_rows outcome.other outcome.panel)
       (refusal_short number (refusal_items outcome.refusal) (items_few outcome.refusal))
+
+-- ---- the lines of an answer, case by case
+
+asked : (passes : Bool) → is_asked (panel_verdict (Some passes)) ≡ true
+asked true = refl
+asked false = refl
+
+number_some : (refusal : FaceRefusal) → number_of refusal ≡ 0 → ⊥
+number_some (OutOfRange field) none = absurd (omega arith)
+number_some LeversDontFall none = absurd (omega arith)
+number_some RowsTooClose none = absurd (omega arith)
+number_some RowOutOfPlace none = absurd (omega arith)
+number_some TooTight none = absurd (omega arith)
+number_some TooThick none = absurd (omega arith)
+number_some NoCap none = absurd (omega arith)
+
+module _ (number rows other_rows : ℕ) where
+  pub worked_lines : {outcome : Result Worked JointRefusal} {worked : Worked} → outcome ≡ Ok worked
+      → outcome_lines number rows other_rows (outcome_meaning outcome) ≡ face_lines number rows other_rows (outcome_meaning (Ok worked))
+  worked_lines {worked = worked} is = rw is (outcome_faces number rows other_rows (outcome_meaning (Ok worked)) refl)
+
+  pub refused_line : {outcome : Result Worked JointRefusal} {refused : JointRefusal} → outcome ≡ Err refused
+      → concatenated (outcome_lines number rows other_rows (outcome_meaning outcome))
+      ≡ refusal_line number (refusal_items (outcome_meaning (Err refused)).refusal)
+  refused_line {refused = refused} is =
+      rw is (outcome_refusal number rows other_rows (outcome_meaning (Err refused)) (number_some refused.refusal))
+
+  pub faces_alone : (worked : Worked) → worked.second ≡ None
+      → concatenated (face_lines number rows other_rows (outcome_meaning (Ok worked)))
+      ≡ result_line number rows worked.result (panel_verdict None)
+  faces_alone worked alone = rw alone (one_line _)
+
+  pub faces_both : (worked : Worked) (second : SecondFace) → worked.second ≡ Some second
+      → let panel = panel_verdict (Some second.panel_passes) in
+      concatenated (face_lines number rows other_rows (outcome_meaning (Ok worked)))
+      ≡ result_line number rows worked.result panel ++ result_line number other_rows second.result panel
+  unfolding concatenated
+  faces_both worked second both =
+      rw (both, asked second.panel_passes)
+      (ap (λ (l : List ℕ). result_line number rows worked.result (panel_verdict (Some second.panel_passes)) ++ l) (append-nil _))

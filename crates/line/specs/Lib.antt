@@ -2,3 +2,4 @@
 -- Assumes nothing.
 pub mod Line
 pub mod Longest
+pub mod Steps

@@ -4,10 +4,7 @@ use Rattle.std.specs.Prelude.{ℕ, min, List, [], ◌∷◌, ◌++◌, map, Bool
 use Rattle.governing.specs.declared.CompressionCheck.{CompressionCheck}
 use Rattle.governing.specs.declared.CompressionCheck.TheVariants.{Flange, Bearing, Buckling, Panel}
 use Rattle.outcome.specs.declared.FaceResult.{FaceResult}
-use Rattle.outcome.specs.declared.Outcome.{Outcome}
-use Rattle.outcome.specs.declared.PanelVerdict.{PanelVerdict}
-use Rattle.outcome.specs.declared.PanelVerdict.TheVariants.{NotAsked, Passes, Fails}
-use Rattle.outcome.specs.declared.Refusal.{Refusal}
+use Rattle.outcome.specs.Outcome.{Outcome, PanelVerdict, NotAsked, Passes, Fails, Refusal}
 use Rattle.items.specs.Digits.{decimal}
 use Rattle.items.specs.Items.{Item, letter, spaced}
 

@@ -1,6 +1,6 @@
 -- How long a line of the sheet can be. No rule says it; printing goes by it. Assumes nothing.
 use Rattle.std.specs.Prelude.{ℕ, cond}
-use Rattle.outcome.specs.declared.PanelVerdict.{PanelVerdict}
+use Rattle.outcome.specs.Outcome.{PanelVerdict}
 use Rattle.line.specs.Line.{is_asked}
 
 -- how many letters a line shows

@@ -1,287 +1,149 @@
 // Lines of the sheet (rules 12.2 to 12.4 and 12.6): what working a joint came to, and what a joint that can't be read was refused for,
-// each measured, and put into a lent buffer. What is open here is so for the crate of the sheet, which shows that there is room for
-// what it puts.
+// each handed over byte by byte: a writer puts it, a counter measures it. What is open here is so for the crate of the sheet, which shows
+// that there is room for what it hands over.
 #![tactic(auto)]
 
-ghost use Rattle.std.specs.Prelude.{◌+◌, ◌≤◌, min, ◌≡◌, cond, [], ◌∷◌, ◌++◌, map, eqb, length, take};
-ghost use Rattle.buffers.specs.Put.{Put};
+ghost use Rattle.std.specs.Prelude.{◌≡◌, [], ◌∷◌, ◌++◌, map, Ok, Err};
+ghost use Rattle.outcome.specs.Outcome.{outcome_meaning};
 ghost use Rattle.items.specs.Digits.{decimal};
 ghost use Rattle.items.specs.Items.{letter, spaced};
-ghost use Rattle.line.specs.Line.{check_letter, verdict_letter, letters_of, figures_of, row_forces, is_asked, panel_letter, shown_letters};
-ghost use Rattle.line.specs.Line.{result_line, refusal_line, refusal_items, face_lines, outcome_lines, concatenated};
-ghost use Rattle.line.specs.Longest.{letter_count, most_line};
+ghost use Rattle.line.specs.Line.{check_letter, verdict_letter, letters_of, row_forces, shown_letters, result_line};
+ghost use Rattle.line.specs.Line.{refusal_line, refusal_items, face_lines, outcome_lines, concatenated};
+ghost use Rattle.line.specs.Steps.{refusal_begun, field_items, face_items, panel_verdict};
 
 use governing::CompressionCheck;
-use items::number::{digit_count, put_number};
-use items::{numbers_size, put_letters, put_numbers};
-use outcome::{FaceResult, Outcome, PanelVerdict, Refusal};
+use items::{Sink, put_letters, put_numbers};
+use outcome::{FaceRefusal, FaceResult, JointRefusal, RefusedFace, Worked};
 
 // No line is longer.
 pub const MOST_LINE: usize = 285;
 
-// The size of the lines of a joint that was read: its result, face by face, or the refusal by which Work turned it down.
-pub fn outcome_size(number: u64, rows: u32, other_rows: u32, outcome: Outcome) -> usize
-    ensures { result ≡ length (concatenated (outcome_lines number rows other_rows outcome)) }
-{
-    let refusal = outcome.refusal;
-    if refusal.number == 0 {
-        return faces_size(number, rows, other_rows, outcome);
-    }
-    work_refusal_size(number, refusal)
-}
-
-// Puts those lines, and answers the place after them.
-pub fn put_outcome(
-    buffer: &mut [u8],
-    at: usize,
+// Hands over the lines of a joint that was read: its result, face by face, or the refusal by which Work turned it down.
+pub fn put_outcome<S: Sink>(
+    sink: &mut S,
     number: u64,
     rows: u32,
     other_rows: u32,
-    outcome: Outcome,
-) -> usize
-    requires { at + length (concatenated (outcome_lines number rows other_rows outcome)) ≤ length buffer.old }
-    ensures { Put buffer.old at (concatenated (outcome_lines number rows other_rows outcome)) buffer.new result }
+    outcome: Result<Worked, JointRefusal>,
+)
+    requires { S.has_room sink.old (concatenated (outcome_lines number rows other_rows (outcome_meaning outcome))) }
+    ensures { S.takes sink.old (concatenated (outcome_lines number rows other_rows (outcome_meaning outcome))) sink.new }
 {
-    let refusal = outcome.refusal;
-    if refusal.number == 0 {
-        return put_faces(buffer, at, number, rows, other_rows, outcome);
+    match outcome {
+        Ok(worked) => put_faces(sink, number, rows, other_rows, &worked),
+        Err(refused) => put_work_refusal(sink, number, refused),
     }
-    put_work_refusal(buffer, at, number, refusal)
 }
 
-// The size of the line of a joint that can't be read.
-pub fn read_refusal_size(number: u64, refusal: u32) -> usize
-    ensures { result ≡ length (refusal_line number (refusal ∷ [])) }
+// Hands over the line of a joint that can't be read.
+pub fn put_read_refusal<S: Sink>(sink: &mut S, number: u64, refusal: u32)
+    requires { S.has_room sink.old (refusal_line number (refusal ∷ [])) }
+    ensures { S.takes sink.old (refusal_line number (refusal ∷ [])) sink.new }
 {
-    let items = [refusal as u64];
-    refusal_size(number, &items)
-}
-
-// Puts that line, and answers the place after it.
-pub fn put_read_refusal(buffer: &mut [u8], at: usize, number: u64, refusal: u32) -> usize
-    requires { at + length (refusal_line number (refusal ∷ [])) ≤ length buffer.old }
-    ensures { Put buffer.old at (refusal_line number (refusal ∷ [])) buffer.new result }
-{
-    let printed = [refusal as u64];
-    put_refusal(buffer, at, number, &printed)
+    begin_refusal(sink, number, refusal as u64);
+    sink.byte(b'\n');
 }
 
 // ---- refusals
 
-// The numbers that a refusal shows stand at the front of three places.
-#[derive(Clone, Copy)]
-struct Shown {
-    numbers: [u64; 3],
-    count: usize,
-}
-
 // The refusal's number, the field for 10 alone, and last the face, of a joint that has two.
-fn shown_of(refusal: Refusal) -> Shown
-    ensures numbers_value { (take result.count result.numbers ≡ refusal_items refusal) × (result.count ≤ 3) }
-    ensures numbers_len { length result.numbers ≡ 3 }
+fn put_work_refusal<S: Sink>(sink: &mut S, number: u64, refused: JointRefusal)
+    requires { S.has_room sink.old (refusal_line number (refusal_items (outcome_meaning (Err refused)).refusal)) }
+    ensures { S.takes sink.old (refusal_line number (refusal_items (outcome_meaning (Err refused)).refusal)) sink.new }
 {
-    let number = refusal.number as u64;
-    let face = refusal.face as u64;
-    let told = face_count(refusal);
-    if refusal.number == 10 {
-        return Shown {
-            numbers: [number, refusal.field as u64, face],
-            count: 2 + told,
-        };
+    begin_refusal(sink, number, refused.number() as u64);
+    put_field(sink, refused.refusal);
+    put_face(sink, refused.face);
+    sink.byte(b'\n');
+}
+
+// The joint's number, R, and the refusal's number.
+fn begin_refusal<S: Sink>(sink: &mut S, number: u64, refusal: u64)
+    requires { S.has_room sink.old (refusal_begun number refusal) }
+    ensures { S.takes sink.old (refusal_begun number refusal) sink.new }
+{
+    sink.number(number);
+    put_letters(sink, b"R");
+    put_numbers(sink, &[refusal]);
+}
+
+fn put_field<S: Sink>(sink: &mut S, refusal: FaceRefusal)
+    requires { S.has_room sink.old (spaced (map decimal (field_items refusal))) }
+    ensures { S.takes sink.old (spaced (map decimal (field_items refusal))) sink.new }
+{
+    if let FaceRefusal::OutOfRange(field) = refusal {
+        put_numbers(sink, &[field as u64]);
     }
-    Shown {
-        numbers: [number, face, 0],
-        count: 1 + told,
+}
+
+fn put_face<S: Sink>(sink: &mut S, face: RefusedFace)
+    requires { S.has_room sink.old (spaced (map decimal (face_items face))) }
+    ensures { S.takes sink.old (spaced (map decimal (face_items face))) sink.new }
+{
+    match face {
+        RefusedFace::Only => {}
+        RefusedFace::First => put_numbers(sink, &[1]),
+        RefusedFace::Second => put_numbers(sink, &[2]),
     }
-}
-
-// How many numbers tell the face.
-fn face_count(refusal: Refusal) -> usize
-    ensures { (result ≡ cond (eqb refusal.face 0) 0 1) × (result ≤ 1) }
-{
-    if refusal.face == 0 { 0 } else { 1 }
-}
-
-fn work_refusal_size(number: u64, refusal: Refusal) -> usize
-    ensures { result ≡ length (refusal_line number (refusal_items refusal)) }
-{
-    let shown = shown_of(refusal);
-    let numbers = shown.numbers;
-    let count = shown.count;
-    refusal_size(number, &numbers[..count])
-}
-
-fn put_work_refusal(buffer: &mut [u8], at: usize, number: u64, refusal: Refusal) -> usize
-    requires { at + length (refusal_line number (refusal_items refusal)) ≤ length buffer.old }
-    ensures { Put buffer.old at (refusal_line number (refusal_items refusal)) buffer.new result }
-{
-    let shown = shown_of(refusal);
-    let numbers = shown.numbers;
-    let count = shown.count;
-    put_refusal(buffer, at, number, &numbers[..count])
-}
-
-// The size of the line of a refusal that shows these numbers; the 3 are R, its space and the line feed.
-fn refusal_size(number: u64, items: &[u64]) -> usize
-    requires { length items.now ≤ 3 }
-    ensures { result ≡ length (refusal_line number items.now) }
-{
-    digit_count(number) + numbers_size(items) + 3
-}
-
-fn put_refusal(buffer: &mut [u8], from: usize, number: u64, items: &[u64]) -> usize
-    requires { from + length (refusal_line number items.now) ≤ length buffer.old }
-    ensures { Put buffer.old from (refusal_line number items.now) buffer.new result }
-{
-    let mark = [b'R'];
-    let after_number = put_number(buffer, from, number);
-    let after_mark = put_letters(buffer, after_number, &mark);
-    let end = put_numbers(buffer, after_mark, items);
-    buffer[end] = b'\n';
-    end + 1
 }
 
 // ---- results
 
-fn faces_size(number: u64, rows: u32, other_rows: u32, outcome: Outcome) -> usize
-    ensures { result ≡ length (concatenated (face_lines number rows other_rows outcome)) }
+fn put_faces<S: Sink>(sink: &mut S, number: u64, rows: u32, other_rows: u32, worked: &Worked)
+    requires { S.has_room sink.old (concatenated (face_lines number rows other_rows (outcome_meaning (Ok worked.now)))) }
+    ensures { S.takes sink.old (concatenated (face_lines number rows other_rows (outcome_meaning (Ok worked.now)))) sink.new }
 {
-    let result = outcome.result;
-    let panel = outcome.panel;
-    let first = result_size(number, rows, result, panel);
-    if is_asked(panel) {
-        let other = outcome.other;
-        return first + result_size(number, other_rows, other, panel);
-    }
-    first
-}
-
-fn put_faces(
-    buffer: &mut [u8],
-    at: usize,
-    number: u64,
-    rows: u32,
-    other_rows: u32,
-    outcome: Outcome,
-) -> usize
-    requires { at + length (concatenated (face_lines number rows other_rows outcome)) ≤ length buffer.old }
-    ensures { Put buffer.old at (concatenated (face_lines number rows other_rows outcome)) buffer.new result }
-{
-    let result = outcome.result;
-    let panel = outcome.panel;
-    let after_first = put_result(buffer, at, number, rows, result, panel);
-    if is_asked(panel) {
-        let other = outcome.other;
-        return put_result(buffer, after_first, number, other_rows, other, panel);
-    }
-    after_first
-}
-
-// Whether the panel's verdict is shown.
-fn is_asked(panel: PanelVerdict) -> bool
-    ensures { result ≡ is_asked panel }
-{
-    match panel {
-        PanelVerdict::NotAsked => false,
-        PanelVerdict::Passes => true,
-        PanelVerdict::Fails => true,
+    match &worked.second {
+        None => put_result(sink, number, rows, &worked.result, None),
+        Some(second) => {
+            let panel = Some(second.panel_passes);
+            put_result(sink, number, rows, &worked.result, panel);
+            put_result(sink, number, other_rows, &second.result, panel);
+        }
     }
 }
 
-// A letter takes two bytes with its space, and the line feed one.
-fn result_size(number: u64, rows: u32, res: FaceResult, panel: PanelVerdict) -> usize
-    ensures { (result ≡ length (result_line number rows res panel)) × (result ≤ most_line) }
+// The line of a face, and with it the panel's verdict, where there are two.
+fn put_result<S: Sink>(sink: &mut S, number: u64, rows: u32, face: &FaceResult, panel: Option<bool>)
+    requires { S.has_room sink.old (result_line number rows face.now (panel_verdict panel)) }
+    ensures { S.takes sink.old (result_line number rows face.now (panel_verdict panel)) sink.new }
 {
-    let forces = res.forces;
-    let figures = figures_of(res);
-    let letters = letter_count(panel);
-    digit_count(number) + rows_size(rows, forces) + numbers_size(&figures) + 2 * letters + 1
+    sink.number(number);
+    put_rows(sink, rows, &face.forces);
+    put_numbers(sink, &[face.sum, face.newton_metres, face.cap]);
+    put_verdicts(sink, face, panel);
+    sink.byte(b'\n');
 }
 
-// How many letters a line shows.
-fn letter_count(panel: PanelVerdict) -> usize
-    ensures { result ≡ letter_count panel }
+// The row count and the forces of the rows: no face has more than eight.
+fn put_rows<S: Sink>(sink: &mut S, rows: u32, forces: &[u64; 8])
+    requires { S.has_room sink.old (spaced (map decimal (rows ∷ row_forces rows forces.now))) }
+    ensures { S.takes sink.old (spaced (map decimal (rows ∷ row_forces rows forces.now))) sink.new }
 {
-    if is_asked(panel) { 6 } else { 5 }
+    put_numbers(sink, &[rows as u64]);
+    put_numbers(sink, &forces[..rows.min(8) as usize]);
 }
 
-fn rows_size(rows: u32, forces: [u64; 8]) -> usize
-    ensures { result ≡ length (spaced (map decimal (rows ∷ row_forces rows forces))) }
+// The letters of the governing check and the verdicts, the panel's last.
+fn put_verdicts<S: Sink>(sink: &mut S, face: &FaceResult, panel: Option<bool>)
+    requires { S.has_room sink.old (spaced (map letter (shown_letters face.now (panel_verdict panel)))) }
+    ensures { S.takes sink.old (spaced (map letter (shown_letters face.now (panel_verdict panel)))) sink.new }
 {
-    let count = forces_shown(rows);
-    1 + digit_count(rows as u64) + numbers_size(&forces[..count])
+    put_letters(sink, &letters_of(face));
+    if let Some(passes) = panel {
+        put_letters(sink, &[verdict_letter(passes)]);
+    }
 }
 
-// How many forces a line shows: one for each row, and never more than eight.
-fn forces_shown(rows: u32) -> usize
-    ensures { result ≡ min rows 8 }
+fn letters_of(face: &FaceResult) -> [u8; 5]
+    ensures { result ≡ letters_of face.now }
 {
-    if rows < 8 { rows as usize } else { 8 }
-}
-
-fn put_result(
-    buffer: &mut [u8],
-    from: usize,
-    number: u64,
-    rows: u32,
-    res: FaceResult,
-    panel: PanelVerdict,
-) -> usize
-    requires { from + length (result_line number rows res panel) ≤ length buffer.old }
-    ensures { Put buffer.old from (result_line number rows res panel) buffer.new result }
-{
-    let forces = res.forces;
-    let figures = figures_of(res);
-    let after_rows = put_rows(buffer, from, number, rows, forces);
-    let after_figures = put_numbers(buffer, after_rows, &figures);
-    let after_letters = put_face_letters(buffer, after_figures, res, panel);
-    buffer[after_letters] = b'\n';
-    after_letters + 1
-}
-
-// Puts the letters of the governing check and the verdicts, the panel's last.
-fn put_face_letters(buffer: &mut [u8], from: usize, res: FaceResult, panel: PanelVerdict) -> usize
-    requires { from + length (spaced (map letter (shown_letters res panel))) ≤ length buffer.old }
-    ensures { Put buffer.old from (spaced (map letter (shown_letters res panel))) buffer.new result }
-{
-    let letters = letters_of(res, panel);
-    let count = letter_count(panel);
-    put_letters(buffer, from, &letters[..count])
-}
-
-// Puts the joint's number, its row count and the forces of its rows.
-fn put_rows(buffer: &mut [u8], from: usize, number: u64, rows: u32, forces: [u64; 8]) -> usize
-    requires { from + length (decimal number ++ spaced (map decimal (rows ∷ row_forces rows forces))) ≤ length buffer.old }
-    ensures { Put buffer.old from (decimal number ++ spaced (map decimal (rows ∷ row_forces rows forces)))
-        buffer.new result }
-{
-    let row_count = [rows as u64];
-    let count = forces_shown(rows);
-    let after_number = put_number(buffer, from, number);
-    let after_rows = put_numbers(buffer, after_number, &row_count);
-    put_numbers(buffer, after_rows, &forces[..count])
-}
-
-// The figures after the forces.
-fn figures_of(res: FaceResult) -> [u64; 3]
-    ensures { result ≡ figures_of res }
-{
-    [res.sum, res.newton_metres, res.cap]
-}
-
-// The letters of the governing check and the verdicts, and a place for the panel's.
-fn letters_of(res: FaceResult, panel: PanelVerdict) -> [u8; 6]
-    ensures { result ≡ letters_of res ++ (panel_letter panel ∷ []) }
-{
-    let check = res.check;
-    let verdicts = res.verdicts;
     [
-        check_letter(check),
-        verdict_letter(verdicts.bending),
-        verdict_letter(verdicts.bolts),
-        verdict_letter(verdicts.flange_weld),
-        verdict_letter(verdicts.web_weld),
-        panel_letter(panel),
+        check_letter(face.check),
+        verdict_letter(face.verdicts.bending),
+        verdict_letter(face.verdicts.bolts),
+        verdict_letter(face.verdicts.flange_weld),
+        verdict_letter(face.verdicts.web_weld),
     ]
 }
 
@@ -300,14 +162,4 @@ fn verdict_letter(passes: bool) -> u8
     ensures { result ≡ verdict_letter passes }
 {
     if passes { b'P' } else { b'F' }
-}
-
-fn panel_letter(panel: PanelVerdict) -> u8
-    ensures { result ≡ panel_letter panel }
-{
-    match panel {
-        PanelVerdict::NotAsked => 0,
-        PanelVerdict::Passes => b'P',
-        PanelVerdict::Fails => b'F',
-    }
 }

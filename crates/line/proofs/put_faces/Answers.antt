@@ -1,28 +1,25 @@
--- `put_faces` meets its contract: one line is put, or two, one after the other, where the panel is asked. Assumes nothing.
-use mathlib.Core.Path.{◌≡◌, sym, ◌∙◌}
-use mathlib.Core.List.{◌++◌}
-use Rattle.buffers.proofs.Puts.{put_both, room_after}
-use Rattle.line.specs.Line.{result_line, face_lines, concatenated}
-use Rattle.line.proofs.Lines.{one_face, two_faces, first_room}
+-- `put_faces` meets its contract: one line is taken, or two, one after the other. Assumes nothing.
+use Rattle.line.proofs.Lines.{faces_alone, faces_both}
 use Rattle.line.proofs.put_faces.Goals as goal
 
-pub put_result-after_first-requires : goal.put_result-after_first-requires
-put_result-after_first-requires c = first_room c.args.number c.args.rows c.args.other_rows c.args.outcome _ _ c.requires
-
 pub put_result-requires : goal.put_result-requires
-put_result-requires c =
-    let both : let args = c.args in concatenated (face_lines args.number args.rows args.other_rows args.outcome) ≡ result_line args.number args.rows args.outcome.result args.outcome.panel ++ result_line args.number args.other_rows args.outcome.other args.outcome.panel = let args = c.args in
-    two_faces args.number args.rows args.other_rows args.outcome (sym c.is_asked.ensures ∙ c.if-is_asked.true) in
-    room_after _ c.put_result-after_first.ensures (rw both at c.requires)
+put_result-requires g c = rw (faces_alone c.args.number c.args.rows c.args.other_rows c.args.worked.now c.in-None.is) at c.requires
 
-pub returns-then-is_asked : goal.returns-then-is_asked
-returns-then-is_asked c =
-    let both : let args = c.args in concatenated (face_lines args.number args.rows args.other_rows args.outcome) ≡ result_line args.number args.rows args.outcome.result args.outcome.panel ++ result_line args.number args.other_rows args.outcome.other args.outcome.panel = let args = c.args in
-    two_faces args.number args.rows args.other_rows args.outcome (sym c.is_asked.ensures ∙ c.if-is_asked.true) in
-    rw both (put_both c.put_result-after_first.ensures c.put_result.ensures)
+pub put_result-requires-in-Some : goal.put_result-requires-in-Some
+put_result-requires-in-Some g c =
+    let room = rw (faces_both c.args.number c.args.rows c.args.other_rows c.args.worked.now _ c.in-Some.is) at c.requires in
+    g.met.S.Sink.room_first _ _ _ room
 
-pub returns : goal.returns
-returns c =
-    let args = c.args in
-    let test = sym c.is_asked.ensures ∙ c.if-is_asked.false in
-    rw (one_face args.number args.rows args.other_rows args.outcome test) c.put_result-after_first.ensures
+pub put_result-requires-in-Some-2 : goal.put_result-requires-in-Some-2
+put_result-requires-in-Some-2 g c =
+    let room = rw (faces_both c.args.number c.args.rows c.args.other_rows c.args.worked.now _ c.in-Some.is) at c.requires in
+    g.met.S.Sink.room_after _ _ _ _ c.put_result-in-Some.ensures room
+
+pub returns-in-None : goal.returns-in-None
+returns-in-None g c =
+    rw (faces_alone c.args.number c.args.rows c.args.other_rows c.args.worked.now c.in-None.is) c.put_result.ensures
+
+pub returns-in-Some : goal.returns-in-Some
+returns-in-Some g c =
+    rw (faces_both c.args.number c.args.rows c.args.other_rows c.args.worked.now _ c.in-Some.is)
+    (g.met.S.Sink.takes_both _ _ _ _ _ c.put_result-in-Some.ensures c.put_result-in-Some-2.ensures)

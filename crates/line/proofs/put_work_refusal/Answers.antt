@@ -1,16 +1,33 @@
--- `put_work_refusal` meets its contract: the line shows the numbers at the front of their places. Assumes nothing.
-use mathlib.Core.Path.{sym}
-use native.Mathlib.Omega.{arith}
-use lib.Seq.{length-take-le}
+-- `put_work_refusal` meets its contract: the refusal's number, its field, its face and the line feed are taken one after the other.
+-- Assumes nothing.
+use Rattle.line.proofs.Lines.{work_parts}
 use Rattle.line.proofs.put_work_refusal.Goals as goal
 
-pub slice_bounds-put_refusal-end : goal.slice_bounds-put_refusal-end
-slice_bounds-put_refusal-end c =
-    let shown = c.shown_of-shown.ensures in
-    sym (length-take-le _ _ (omega (arith, shown.numbers_value.1, shown.numbers_len)))
+pub begin_refusal-requires : goal.begin_refusal-requires
+begin_refusal-requires g c = g.met.S.Sink.room_first _ _ _ (rw (work_parts c.args.number c.args.refused c.number.ensures) at c.requires)
 
-pub put_refusal-requires : goal.put_refusal-requires
-put_refusal-requires c = rw c.shown_of-shown.ensures.numbers_value.0 c.requires
+pub put_field-requires : goal.put_field-requires
+put_field-requires g c =
+    let sink = g.met.S.Sink in
+    let room = rw (work_parts c.args.number c.args.refused c.number.ensures) at c.requires in
+    sink.room_first _ _ _ (sink.room_after _ _ _ _ c.begin_refusal.ensures room)
+
+pub put_face-requires : goal.put_face-requires
+put_face-requires g c =
+    let sink = g.met.S.Sink in
+    let room = rw (work_parts c.args.number c.args.refused c.number.ensures) at c.requires in
+    sink.room_first _ _ _ (sink.room_after _ _ _ _ c.put_field.ensures (sink.room_after _ _ _ _ c.begin_refusal.ensures room))
+
+pub byte-requires : goal.byte-requires
+byte-requires g c =
+    let sink = g.met.S.Sink in
+    let room = rw (work_parts c.args.number c.args.refused c.number.ensures) at c.requires in
+    sink.room_after _ _ _ _ c.put_face.ensures
+    (sink.room_after _ _ _ _ c.put_field.ensures (sink.room_after _ _ _ _ c.begin_refusal.ensures room))
 
 pub returns : goal.returns
-returns c = rw c.shown_of-shown.ensures.numbers_value.0 at c.put_refusal.ensures
+returns g c =
+    let sink = g.met.S.Sink in
+    rw (work_parts c.args.number c.args.refused c.number.ensures)
+    (sink.takes_both _ _ _ _ _ c.begin_refusal.ensures
+    (sink.takes_both _ _ _ _ _ c.put_field.ensures (sink.takes_both _ _ _ _ _ c.put_face.ensures c.byte.ensures)))
