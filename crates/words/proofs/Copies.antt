@@ -1,57 +1,64 @@
--- Numbers copied into a slice one by one, at any width: what holds where the loop begins a turn, that a turn carries it on, and what it
--- comes to. Then what copies from the first place on come to. It rests on the laws of `sets`. Assumes nothing.
-use Prim.Native.Nat.{ℕ, ◌+◌, ◌-◌, ◌≤◌, ◌<◌}
-use mathlib.Core.Path.{◌≡◌, refl, sym, ap, ◌∙◌}
-use mathlib.Core.List.{List, [], ◌∷◌, ◌++◌, append-nil}
-use native.Mathlib.Omega.{arith}
-use native.Mathlib.Numerals.{add-one}
-use lib.ListN.{length, get_or, set, take, drop, length-append, length-drop, drop_of_length-le}
-use lib.Seq.{sets, length-sets, length-take-le, take-suc, take_all}
+-- Words put into a slice one run after another, the first at its front. Then the words of a part of a slice, as an array. Assumes nothing.
+use Rattle.std.proofs.Common.{ℕ, ◌≡◌, ◌+◌, ◌-◌, ◌≤◌, ◌<◌, List, [], ◌∷◌, ◌++◌, length, set, drop, Result, Ok, MatchResult, refl, sym, ap, subst, ◌∙◌, arith, append_assoc}
+use Rattle.std.proofs.lemmas.List.{take_at, drop_at, drop-drop, drop_all, append-nil, length-append, length-drop, set-append_right}
+use Rattle.std.specs.Array.{IsWholeChunk}
+use borrow.Rule.Slice.PartMut.{put_mid}
 use Rattle.buffers.specs.Put.{at_front}
-use Rattle.buffers.proofs.Puts.{sets-append, sets_front}
 
--- the first `done` numbers are copied
-pub record CopyHead (slice₀ : List ℕ) (at : ℕ) (numbers slice : List ℕ) (done : ℕ) : Type 0 where
-  pub within : done ≤ length numbers
-  pub copied : slice ≡ sets slice₀ at (take done numbers)
+-- the words are put up to a place, and past it the slice is as it was before
+pub record Front (before slice words : List ℕ) (at : ℕ) : Type 0 where
+  pub put : slice ≡ at_front words before
+  pub size : length words ≡ at
 
-pub copy_none : (slice : List ℕ) (at : ℕ) (numbers : List ℕ) → CopyHead slice at numbers slice 0
-copy_none slice at numbers = record { within = omega arith; copied = refl }
+pub first_word : (before : List ℕ) (word : ℕ) → 1 ≤ length before → Front before (set before 0 word) (word ∷ []) 1
+first_word [] word some = absurd (omega arith)
+first_word (other ∷ before) word some = record { put = refl; size = refl }
 
-module _ {slice₀ : List ℕ} {at : ℕ} {numbers slice : List ℕ} {done : ℕ} (head : CopyHead slice₀ at numbers slice done) where
-  pub copy_length : length slice ≡ length slice₀
-  copy_length = ap length head.copied ∙ length-sets slice₀ at (take done numbers)
+-- a run of words, as an array that was copied
+pub first_run : (before : List ℕ) {part array words : List ℕ} {count : ℕ} → part ≡ array → length array ≡ count → array ≡ words
+    → Front before (part ++ drop count before) words count
+first_run before copied size is =
+    record { put = rw (copied, ← size, is); size = ap length (sym is) ∙ size }
 
-  pub copy_more : done < length numbers → CopyHead slice₀ at numbers (set slice (at + done) (get_or numbers done 0)) (done + 1)
-  copy_more more =
-      let all = length-take-le done numbers head.within in
-      let next : take (done + 1) numbers ≡ take done numbers ++ (get_or numbers done 0 ∷ []) = rw add-one (take-suc numbers done 0 more) in
-      record {
-        within = omega arith;
-        copied = rw (head.copied, next, sets-append slice₀ at (take done numbers) (get_or numbers done 0 ∷ []), all);
-      }
+-- and one after those that are put
+pub put_after : {before slice words part array others : List ℕ} {at count : ℕ} → Front before slice words at → part ≡ array
+    → length array ≡ count → array ≡ others
+    → Front before (put_mid at count slice part) (words ++ others) (at + count)
+put_after {before} {slice} {words} {others = others} {at} {count} front copied size is =
+    let run = copied ∙ is in
+    let count_is : length others ≡ count = ap length (sym is) ∙ size in
+    let head = take_at words (drop (length words) before) at front.size in
+    let past = drop_at words (drop (length words) before) at front.size in
+    record {
+      put = rw (front.put, head, past, run, drop-drop count (length words) before, length-append words others, count_is)
+          (sym (append_assoc words others (drop (length words + count) before)));
+      size = length-append words others ∙ (rw (front.size, count_is));
+    }
 
-  pub copy_done : length numbers ≤ done → slice ≡ sets slice₀ at numbers
-  copy_done end = head.copied ∙ ap (sets slice₀ at) (take_all done numbers end)
+-- one word after those that are put
+pub word_after : {before slice words : List ℕ} {at : ℕ} (word : ℕ) → Front before slice words at → at < length before
+    → Front before (set slice at word) (words ++ (word ∷ [])) (at + 1)
+word_after {before} {slice} {words} {at} word front more =
+    let past = drop (length words) before in
+    let none : at - at ≡ 0 = omega arith in
+    let start = first_word past word (omega (arith, length-drop (length words) before, front.size, more)) in
+    let here : set (words ++ past) at word ≡ words ++ (word ∷ drop (length words + 1) before) =
+    set-append_right words past at at word front.size (omega arith) ∙ (rw (none, start.put, drop-drop 1 (length words) before))
+    in
+    record {
+      put = rw (front.put, here, length-append words (word ∷ [])) (sym (append_assoc words (word ∷ []) (drop (length words + 1) before)));
+      size = length-append words (word ∷ []) ∙ (rw front.size);
+    }
 
--- numbers over the whole of a slice
-pub copied_over : (slice numbers : List ℕ) → length numbers ≡ length slice → sets slice 0 numbers ≡ numbers
-copied_over slice numbers all =
-    let none : drop (length numbers) slice ≡ [] = drop_of_length-le slice {i = length numbers} (omega arith) in
-    sets_front numbers slice (omega arith) ∙ rw none (append-nil numbers)
+-- where the words are all that the slice has
+pub all_of : {before slice words : List ℕ} {at : ℕ} → Front before slice words at → length before ≡ at → slice ≡ words
+all_of {before} {slice} {words} front end =
+    rw (front.put, drop_all (length words) before (omega (arith, front.size, end))) (append-nil words)
 
--- so many numbers from a place on, as a part of a slice is lent, over an array that has so many
-pub part_over : (slice words : List ℕ) (from count : ℕ) → from + count ≤ length words → length slice ≡ count
-    → sets slice 0 (take (from + count - from) (drop from words)) ≡ take count (drop from words)
-part_over slice words from count room all =
-    let size : from + count - from ≡ count = omega arith in
-    rw size (copied_over slice _ (length-take-le count (drop from words) (omega (arith, length-drop from words)) ∙ sym all))
+-- ---- a part of a slice as an array
 
--- numbers that follow others from the first place on
-pub copied_after : (slice first others : List ℕ) {at : ℕ} → length first ≡ at → at + length others ≤ length slice
-    → sets (sets slice 0 first) at others ≡ at_front (first ++ others) slice
-copied_after slice first others {at} place room =
-    let here : at ≡ 0 + length first = omega arith in
-    rw here
-    (sym (sets-append slice 0 first others)
-    ∙ sets_front (first ++ others) slice (omega (arith, length-append first others)))
+pub part_is : {E : Type 0} (No : E → Type 0) (part words : List ℕ) (count : ℕ) {answer : Result (List ℕ) E}
+    → MatchResult answer (λ array. IsWholeChunk part array count) No → answer ≡ Ok words → words ≡ part
+part_is {E} No part words count given e =
+    let Given : Result (List ℕ) E → Type 0 = λ answer. MatchResult answer (λ array. IsWholeChunk part array count) No in
+    (subst Given e given).same

@@ -1,3 +1,4 @@
--- The laws of copying, which the proofs of several functions use, here and in the crate of calls. Assumes nothing.
-pub mod Copies
-pub mod Lengths
+-- The laws of words put one run after another (`Copies`), of N as a word (`Axial`), and of verdicts as words (`Flags`). Assumes nothing.
+mod Copies
+mod Axial
+mod Flags

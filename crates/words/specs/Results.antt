@@ -5,9 +5,7 @@ use Rattle.governing.specs.declared.CompressionCheck.{CompressionCheck}
 use Rattle.governing.specs.declared.CompressionCheck.TheVariants.{Flange, Bearing, Buckling, Panel}
 use Rattle.governing.specs.Governing.{force_of}
 use Rattle.outcome.specs.declared.FaceResult.{FaceResult}
-use Rattle.outcome.specs.declared.Outcome.{Outcome}
-use Rattle.outcome.specs.declared.PanelVerdict.{PanelVerdict}
-use Rattle.outcome.specs.declared.PanelVerdict.TheVariants.{NotAsked, Passes, Fails}
+use Rattle.outcome.specs.Outcome.{Outcome, PanelVerdict, NotAsked, Passes, Fails}
 
 -- how many words come after the forces, how many a face has with them, and how many a joint has
 abbrev pub figure_word_count : ℕ

@@ -1,14 +1,12 @@
 // What a joint comes to, as words: those of its first face, those of its second, and the panel's.
-ghost use Rattle.std.specs.Prelude.{◌≡◌, ◌+◌, ◌≤◌, length};
-ghost use Rattle.std.proofs.lemmas.List.Edits.{sets};
+ghost use Rattle.std.specs.Prelude.{◌≡◌, ◌≤◌, length};
 ghost use Rattle.buffers.specs.Put.{at_front};
-ghost use Rattle.words.specs.Results.{face_word_count, outcome_word_count, check_number, flag, figure_words, result_words};
-ghost use Rattle.words.specs.Results.{panel_flag, outcome_words};
-ghost use Rattle.words.specs.OneFaced.{one_face_words};
+ghost use Rattle.outcome.specs.Outcome.{outcome_meaning};
+ghost use Rattle.words.specs.Results.{face_word_count, outcome_word_count, check_number, figure_words, result_words};
+ghost use Rattle.words.specs.Results.{outcome_words};
 
-use crate::put::{put_eight_u64, put_u64};
 use governing::CompressionCheck;
-use outcome::{FaceResult, Outcome, PanelVerdict};
+use outcome::{FaceResult, Worked};
 
 // The words after the forces, all of a face's, and all of a joint's.
 const FIGURE_WORDS: usize = 9;
@@ -28,79 +26,44 @@ fn check_number(check: CompressionCheck) -> u64
     }
 }
 
-fn flag_of(passes: bool) -> u64
-    ensures { result ≡ flag passes }
-{
-    if passes { 1 } else { 0 }
-}
-
 // The words after the forces.
-fn figures_of(res: FaceResult) -> [u64; FIGURE_WORDS]
-    ensures { result ≡ figure_words res }
+fn figures_of(of_face: &FaceResult) -> [u64; FIGURE_WORDS]
+    ensures { result ≡ figure_words of_face.now }
 {
-    let check = res.check;
-    let verdicts = res.verdicts;
-    let number = check_number(check);
-    let force = governing::force_of(check);
-    let bending = flag_of(verdicts.bending);
-    let bolts = flag_of(verdicts.bolts);
-    let flange_weld = flag_of(verdicts.flange_weld);
-    let web_weld = flag_of(verdicts.web_weld);
+    let verdicts = of_face.verdicts;
     [
-        res.sum,
-        res.newton_metres,
-        res.cap,
-        number,
-        force,
-        bending,
-        bolts,
-        flange_weld,
-        web_weld,
+        of_face.sum,
+        of_face.newton_metres,
+        of_face.cap,
+        check_number(of_face.check),
+        of_face.check.force(),
+        u64::from(verdicts.bending),
+        u64::from(verdicts.bolts),
+        u64::from(verdicts.flange_weld),
+        u64::from(verdicts.web_weld),
     ]
 }
 
-// Puts the words of a face from a place on.
-fn put_result(words: &mut [u64], at: usize, res: FaceResult)
-    requires { at + face_word_count ≤ length words.old }
-    ensures { (words.new ≡ sets words.old at (result_words res)) × (length res.forces ≡ 8) }
+// Puts the words of a face over as many.
+fn put_result(of_face: &FaceResult, words: &mut [u64])
+    requires { length words.old ≡ face_word_count }
+    ensures { words.new ≡ result_words of_face.now }
 {
-    let forces = res.forces;
-    let figures = figures_of(res);
-    put_eight_u64(words, at, forces);
-    put_u64(words, at + 8, &figures);
+    words[..8].copy_from_slice(&of_face.forces);
+    words[8..FACE_WORDS].copy_from_slice(&figures_of(of_face));
 }
 
-fn panel_flag(panel: PanelVerdict) -> u64
-    ensures { result ≡ panel_flag panel }
+// Puts the words of what a joint comes to at the front of a slice: where there is no second face, 0 for it and for the panel.
+pub fn put_outcome(worked: &Worked, words: &mut [u64])
+    requires { outcome_word_count ≤ length words.old }
+    ensures { words.new ≡ at_front (outcome_words (outcome_meaning (Ok worked.now))) words.old }
 {
-    match panel {
-        PanelVerdict::NotAsked => 0,
-        PanelVerdict::Passes => 1,
-        PanelVerdict::Fails => 0,
+    put_result(&worked.result, &mut words[..FACE_WORDS]);
+    match &worked.second {
+        None => words[FACE_WORDS..OUTCOME_WORDS].fill(0),
+        Some(second) => {
+            put_result(&second.result, &mut words[FACE_WORDS..2 * FACE_WORDS]);
+            words[2 * FACE_WORDS] = u64::from(second.panel_passes);
+        }
     }
-}
-
-// Puts the words of the one face that there is at the front of a slice, and 0 for a second face and the panel.
-pub fn put_one_face(res: FaceResult, words: &mut [u64])
-    requires { outcome_word_count ≤ length words.old }
-    ensures { (length res.forces ≡ 8) × (words.new ≡ at_front (one_face_words res) words.old) }
-{
-    let none = [0; FACE_WORDS + 1];
-    put_result(words, 0, res);
-    put_u64(words, FACE_WORDS, &none);
-}
-
-// Puts the words of an outcome at the front of a slice.
-pub fn put_outcome(outcome: Outcome, words: &mut [u64])
-    requires { outcome_word_count ≤ length words.old }
-    ensures forces_len { (length outcome.result.forces ≡ 8) × (length outcome.other.forces ≡ 8) }
-    ensures words_after { words.new ≡ at_front (outcome_words outcome) words.old }
-{
-    let result = outcome.result;
-    let other = outcome.other;
-    let panel = outcome.panel;
-    let flag = panel_flag(panel);
-    put_result(words, 0, result);
-    put_result(words, FACE_WORDS, other);
-    words[2 * FACE_WORDS] = flag;
 }

@@ -1,18 +1,15 @@
--- `joints::first_fields_of` meets its contract: they are what was put. Assumes nothing.
-use mathlib.Core.Path.{◌≡◌, sym}
-use native.Mathlib.Omega.{arith}
-use lib.ListN.{length, take}
-use lib.Seq.{length-take-le}
-use Rattle.fields.specs.Fields.{field_count}
+-- `joints::first_fields_of` meets its contract. Assumes nothing.
+use Rattle.std.proofs.Common.{sym, length-take-le, arith}
+use Rattle.words.specs.Words.{fields_of_words}
+use Rattle.words.proofs.Copies.{part_is}
 use Rattle.words.proofs.joints.first_fields_of.Goals as goal
 
-pub slice_bounds-put_stored-end : goal.slice_bounds-put_stored-end
-slice_bounds-put_stored-end c =
-    let some : length (take field_count c.args.words.now) ≡ field_count = length-take-le field_count c.args.words.now (omega (arith, c.requires)) in
-    sym some
+pub slice_bounds-try_into-end : goal.slice_bounds-try_into-end
+slice_bounds-try_into-end c = sym (length-take-le 30 c.args.words.now (omega (arith, c.requires)))
 
-pub put_stored-requires : goal.put_stored-requires
-put_stored-requires c =
-    let some : length (take field_count c.args.words.now) ≡ field_count = length-take-le field_count c.args.words.now (omega (arith, c.requires)) in
-    let all = some in
-    (omega (arith, all), omega (arith, all))
+pub unwrap-fields-requires : goal.unwrap-fields-requires
+unwrap-fields-requires c = c.try_into.ensures.0 (length-take-le 30 c.args.words.now (omega (arith, c.requires)))
+
+pub returns : goal.returns
+unfolding fields_of_words
+returns c = rw (c.stored_of.ensures, part_is _ _ _ _ c.try_into.ensures.1 c.unwrap-fields.ensures)

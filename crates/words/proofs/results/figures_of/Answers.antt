@@ -1,16 +1,21 @@
--- `results::figures_of` meets its contract: check, force and verdicts are what their functions ensure, and the rest is as it stands.
--- Assumes nothing.
+-- `results::figures_of` meets its contract, figure by figure. Assumes nothing.
 use Rattle.words.specs.Results.{figure_words}
+use Rattle.words.proofs.Flags.{flag_is}
 use Rattle.words.proofs.results.figures_of.Goals as goal
 
 pub returns : goal.returns
 unfolding figure_words
 returns c =
+    let verdicts = c.args.of_face.now.verdicts in
     rw (
-      c.check_number-number.ensures,
-      c.force_of-force.ensures,
-      c.flag_of-bending.ensures,
-      c.flag_of-bolts.ensures,
-      c.flag_of-flange_weld.ensures,
-      c.flag_of-web_weld.ensures,
+      c.check_number.ensures,
+      c.force.ensures,
+      c.from.ensures,
+      c.from-2.ensures,
+      c.from-3.ensures,
+      c.from-4.ensures,
+      flag_is verdicts.bending,
+      flag_is verdicts.bolts,
+      flag_is verdicts.flange_weld,
+      flag_is verdicts.web_weld,
     )

@@ -1,39 +1,36 @@
--- `results::put_outcome` meets its contract: the first face's words, the second's and the panel's follow one another. Assumes nothing.
-use Prim.Native.Nat.{ℕ}
-use mathlib.Core.Path.{sym, ap, ◌∙◌}
-use mathlib.Core.List.{List, [], ◌∷◌, ◌++◌}
-use native.Mathlib.Nat.{zero-add}
-use native.Mathlib.Omega.{arith}
-use lib.ListN.{set, length-append, length-set}
-use lib.Seq.{sets}
-use Rattle.buffers.proofs.Puts.{sets-append}
-use Rattle.words.specs.Results.{face_word_count, result_words, panel_flag}
-use Rattle.words.proofs.Copies.{copied_after}
-use Rattle.words.proofs.Lengths.{result_length}
+-- `results::put_outcome` meets its contract: the words of the first face are put first, then those of the second, or their zeros, and
+-- the panel's. Assumes nothing.
+use Rattle.std.proofs.Common.{ℕ, ◌≡◌, List, [], ◌∷◌, ◌++◌, length, take, drop, replicate, append_assoc, length-take-le, refl, sym, ap, ◌∙◌, rules, arith}
+use Rattle.buffers.specs.Put.{at_front}
+use Rattle.outcome.specs.Outcome.{no_result}
+use Rattle.words.specs.Results.{figure_words, result_words}
+use Rattle.words.proofs.Copies.{first_run, put_after, word_after}
+use Rattle.words.proofs.Flags.{panel_is}
 use Rattle.words.proofs.results.put_outcome.Goals as goal
 
-pub shape_of-words : goal.shape_of-words
-shape_of-words c =
-    length-set c.put_result-2.new.words 34 c.panel_flag-flag.result
-    ∙ c.put_result-2.auto.words ∙ c.put_result.auto.words
+pub returns-in-None : goal.returns-in-None
+unfolding figure_words
+returns-in-None c =
+    let words = c.args.words.now in
+    let result = c.args.worked.now.result in
+    let size = length-take-le 17 words (omega (arith, c.requires)) in
+    let first = first_run words {count = 17} refl (c.put_result.auto.words ∙ size) c.put_result.ensures in
+    let room : length (take 18 (drop 17 (c.put_result.new.words ++ drop 17 words))) ≡ 18 = search rules in
+    let filled = c.fill.ensures.after (λ y is. is) ∙ ap (λ (n : ℕ). replicate n 0) room in
+    let all = put_after {count = 18} first filled refl refl in
+    rw c.in-None.is
+    (all.put
+    ∙ ap (λ (put : List ℕ). at_front put words) (sym (append_assoc (result_words result) (result_words no_result) (0 ∷ []))))
 
-pub returns : goal.returns
-returns c =
-    let args = c.args in
-    let outcome = args.outcome in
-    let words = args.words.now in
-    let eight = c.put_result.ensures.1 in
-    let eight' = c.put_result-2.ensures.1 in
-    let size = result_length outcome.result eight in
-    let both = result_words outcome.result ++ result_words outcome.other in
-    let put = c.put_result-2.ensures.0
-    ∙ ap (λ (slice : List ℕ). sets slice face_word_count (result_words outcome.other)) c.put_result.ensures.0
-    ∙ ap (λ (n : ℕ). sets (sets words 0 (result_words outcome.result)) n (result_words outcome.other)) (sym size ∙ sym (zero-add _))
-    ∙ sym (sets-append words 0 (result_words outcome.result) (result_words outcome.other)) in record {
-      forces_len = (eight, eight');
-      words_after = ap (λ (slice : List ℕ). set slice 34 c.panel_flag-flag.result) put
-          ∙ ap (set (sets words 0 both) 34) c.panel_flag-flag.ensures
-          ∙ copied_after words both (panel_flag outcome.panel ∷ [])
-          (rw length-append (omega (arith, size, result_length outcome.other eight')))
-          (omega arith);
-    }
+pub returns-in-Some : goal.returns-in-Some
+returns-in-Some c =
+    let words = c.args.words.now in
+    let result = c.args.worked.now.result in
+    let size = length-take-le 17 words (omega (arith, c.requires)) in
+    let first = first_run words {count = 17} refl (c.put_result.auto.words ∙ size) c.put_result.ensures in
+    let second = put_after {count = 17} first refl (c.put_result-in-Some.auto.words ∙ (search rules)) c.put_result-in-Some.ensures in
+    let all = word_after c.from.result second (omega (arith, c.requires)) in
+    rw c.in-Some.is
+    (all.put
+    ∙ ap (λ (flag : ℕ). at_front ((result_words result ++ result_words c.in-Some.second.result) ++ (flag ∷ [])) words)
+    (c.from.ensures ∙ panel_is c.in-Some.second.panel_passes))
