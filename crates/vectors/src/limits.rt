@@ -1,18 +1,17 @@
 // Allocate on a line's limits: `allocate count limit .. = refusal force ..`.
 use crate::compare::{Comparison, compare};
 use crate::reader::{Number, Place, after_equals, fill, fill_some, is_end, number_at};
-use words::put::put_eight_u64;
 
 // No line has more limits.
 const MOST_LIMITS: usize = 64;
 
 // Refusal and eight forces.
 fn allocated_numbers(count: u64, limits: &[u64]) -> [u64; 9] {
-    let allocation = allocation::allocate(count as usize, limits);
-    let forces = allocation.forces;
     let mut numbers = [0u64; 9];
-    put_eight_u64(&mut numbers, 1, forces);
-    numbers[0] = allocation.refusal as u64;
+    match allocation::allocate(count as usize, limits) {
+        Ok(forces) => numbers[1..].copy_from_slice(&forces),
+        Err(refusal) => numbers[0] = u64::from(refusal.number()),
+    }
     numbers
 }
 

@@ -10,12 +10,15 @@ const LOAD_NUMBERS: usize = TABLE_WORDS + 1;
 
 // Refusal, and the words of the table that is then in force.
 fn loaded_numbers(table: [u32; TABLE_WORDS]) -> [u64; LOAD_NUMBERS] {
-    let loading = bolttable::load(bolttable::built_in(), table_of(&table));
+    let mut in_force = bolttable::built_in();
+    let loading = bolttable::load(&mut in_force, table_of(&table));
     let mut words = [0u32; TABLE_WORDS];
-    put_table(loading.table, &mut words);
+    put_table(&in_force, &mut words);
     let mut numbers = [0u64; LOAD_NUMBERS];
     put_numbers(&words, &mut numbers[1..]);
-    numbers[0] = loading.refusal as u64;
+    if let Err(refusal) = loading {
+        numbers[0] = u64::from(refusal.number());
+    }
     numbers
 }
 
