@@ -3,12 +3,20 @@
 use mathlib.Core.Path.{◌≡◌, refl, sym, ap, ◌∙◌}
 use Prim.Native.Nat.{ℕ, suc}
 use native.Mathlib.Omega.{arith}
+use mathlib.Core.Bool.{cond}
+use lib.Signed.{lt_z}
 use lib.IntN.{ℤ, pos, negsuc, nat_abs}
 use mir.Syntax.{w32}
 use mir.Val.{to_z, of_z}
 use Rattle.joint.specs.Axial.{axial_force}
+use Rattle.joint.proofs.Signs.{by_sign}
 use Rattle.joint.specs.declared.AxialForce.{AxialForce}
 use Rattle.joint.specs.declared.AxialForce.TheVariants.{Compression, Tension}
+
+-- by the machine's test of the sign
+pub case_by_sign : (z : ℤ) → axial_force z ≡ cond (lt_z z (pos 0)) (Tension (nat_abs z)) (Compression (nat_abs z))
+unfolding axial_force
+case_by_sign z = by_sign axial_force Compression Tension (λ n. refl) (λ n. refl) z
 
 pub is_compression : (z : ℤ) (n : ℕ) → axial_force z ≡ Compression n → z ≡ pos n
 unfolding axial_force

@@ -1,15 +1,21 @@
 -- What the machine has of a signed number of 32 bits, z, on either side of 0: its bits, and those of -1 - z.
 -- By cases on the sign. Assumes nothing.
-use Prim.Native.Nat.{ℕ, suc, ◌-◌, ◌^◌, ◌<◌}
+use Prim.Native.Nat.{ℕ, suc, ◌-◌, ◌^◌, ◌<◌, zero-le}
 use mathlib.Core.Path.{◌≡◌, refl}
-use mathlib.Core.Bool.{true, false}
+use mathlib.Core.Bool.{true, false, cond}
 use native.Mathlib.Omega.{arith}
 use borrow.Author.Tests.{le-ltb, ltb-true}
-use lib.IntN.{ℤ, pos, negsuc, ◌-ℤ◌}
+use lib.IntN.{ℤ, pos, negsuc, nat_abs, ◌-ℤ◌}
 use lib.Signed.{lt_z}
 use mir.Syntax.{w32}
 use mir.Val.{SFits, to_z, of_z}
 use mir.ValLaws.{to_z-of_z}
+
+-- what is made of a signed number by cases, from its size and the machine's test of its sign
+pub by_sign : {A : Type 0} (f : ℤ → A) (above below : ℕ → A) → ((n : ℕ) → f (pos n) ≡ above n) → ((n : ℕ) → f (negsuc n) ≡ below (suc n))
+    → (z : ℤ) → f z ≡ cond (lt_z z (pos 0)) (below (nat_abs z)) (above (nat_abs z))
+by_sign f above below is_above is_below (pos n) = simp (le-ltb n 0 zero-le) (is_above n)
+by_sign f above below is_above is_below (negsuc n) = is_below n
 
 -- -1 - (-n - 1) is n
 minus_one_neg : (n : ℕ) → negsuc 0 -ℤ negsuc n ≡ pos n

@@ -6,7 +6,6 @@ ghost use Rattle.std.specs.Prelude.{◌≡◌, [], ◌∷◌, ◌+◌, ◌<◌};
 ghost use Rattle.arithmetic.specs.Range.{within, ◌to◌};
 ghost use Rattle.arithmetic.specs.Table.{one_of};
 ghost use Rattle.joint.specs.Ranges.{row_counts, grades, levers};
-ghost use Rattle.joint.specs.Axial.{axial_force};
 ghost use Rattle.joint.specs.Faces.{two_faced, first_rows, first_face};
 ghost use Rattle.joint.specs.Fields.{found_by, field_check, head_checks, grade_checks, column_checks, beam_checks};
 ghost use Rattle.joint.specs.Fields.{plate_checks, weld_checks, load_checks, lever_checks};
@@ -161,14 +160,20 @@ pub enum AxialForce {
     Tension(u32),
 }
 
-// N by its sign. Of an N below 0, -1 - N isn't below 0, and can't wrap.
-pub fn axial_force(axial: i32) -> AxialForce
-    ensures { result ≡ axial_force axial }
-{
-    if axial < 0 {
-        AxialForce::Tension(((-1 - axial) as u32) + 1)
-    } else {
-        AxialForce::Compression(axial as u32)
+// N by its sign.
+impl From<i32> for AxialForce {
+    ghost use Rattle.joint.specs.Axial.{axial_force};
+
+    ghost from_gives = { λ axial force. force ≡ axial_force axial };
+
+    #[tactic(auto, using(crate::proofs::Axial::case_by_sign))]
+    fn from(axial: i32) -> AxialForce {
+        let size = axial.unsigned_abs();
+        if axial < 0 {
+            AxialForce::Tension(size)
+        } else {
+            AxialForce::Compression(size)
+        }
     }
 }
 
