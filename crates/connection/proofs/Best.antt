@@ -29,7 +29,7 @@ use Rattle.tension.specs.Admissible.{Admissible}
 use Rattle.governing.specs.Cap.{newtons_of}
 use Rattle.governing.proofs.Cases.{cap_newtons}
 use Rattle.verdicts.specs.Bending.{carries}
-use Rattle.verdicts.proofs.Signs.{carries_monotone}
+use Rattle.verdicts.proofs.Bending.{carries_monotone}
 use Rattle.outcome.specs.Outcome.{FaceOutcome, face_meaning}
 use Rattle.outcome.specs.declared.FaceRefusal.{FaceRefusal}
 use Rattle.outcome.specs.declared.FaceResult.{FaceResult}

@@ -1,19 +1,20 @@
--- The axial force as a number of the file: the force of an even number and of an odd one, that the two forms undo one another, and that
--- a force of 32 bits has a number of 32 bits. By cases on the sign. Assumes nothing.
-use Prim.Native.Nat.{ℕ, zero, suc, ◌+◌, ◌*◌, ◌/◌, ◌%◌}
+-- The axial force as a number of the file: by the force's sign and size, the force of an even number and of an odd one, and that the two
+-- forms undo one another. By cases on the sign. Assumes nothing.
+use Prim.Native.Nat.{ℕ, ◌+◌, ◌*◌, ◌-◌, ◌/◌, ◌%◌}
 use mathlib.Core.Path.{◌≡◌, refl, ap, ◌∙◌}
-use mathlib.Core.Bool.{Bool, true, false}
+use mathlib.Core.Bool.{Bool, true, false, cond}
 use native.Mathlib.Omega.{arith}
-use native.Mathlib.Nat.{zero-add}
 use borrow.Author.Tests.{eq-eqb, ne_eqb, eqb-true, eqb-false}
 use lib.Dec.{eqb}
-use lib.IntN.{ℤ, pos, negsuc, ◌-ℤ◌}
+use lib.IntN.{ℤ, pos, negsuc, nat_abs}
+use lib.Signed.{lt_z}
+use Rattle.joint.proofs.Signs.{by_sign}
 use Rattle.fields.specs.Fields.{stored_axial, axial_of}
 
--- -1 - n is negative
-pub minus_one_pos : (n : ℕ) → negsuc 0 -ℤ pos n ≡ negsuc n
-minus_one_pos zero = refl
-minus_one_pos (suc n) = rw zero-add
+-- by the machine's test of the sign
+pub stored_by_sign : (z : ℤ) → stored_axial z ≡ cond (lt_z z (pos 0)) (2 * (nat_abs z - 1) + 1) (2 * nat_abs z)
+unfolding stored_axial
+stored_by_sign z = by_sign stored_axial (λ n. 2 * n) (λ n. 2 * (n - 1) + 1) (λ n. refl) (λ n. omega arith) z
 
 pub axial_even : (x : ℕ) → x % 2 ≡ 0 → axial_of x ≡ pos (x / 2)
 unfolding axial_of

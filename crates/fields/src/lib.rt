@@ -16,6 +16,7 @@ pub const FIELD_COUNT: usize = 30;
 pub const OWN_COUNT: usize = 20;
 
 // The axial force that a number of the file stands for.
+#[tactic(auto, unfolding(crate::specs::Fields::axial_of))]
 fn axial_of(x: u32) -> i32
     ensures { result ≡ axial_of x }
 {
@@ -23,19 +24,21 @@ fn axial_of(x: u32) -> i32
     if x % 2 == 0 { half } else { -1 - half }
 }
 
-// The number that an axial force is stored as. -1 - axial is never negative here, and can't wrap.
+// The number that an axial force is stored as. Twice the size of the least force of 32 bits would wrap, twice one less doesn't.
+#[tactic(auto, using(crate::proofs::Axial::stored_by_sign))]
 pub fn stored_axial(axial: i32) -> u32
     ensures { result ≡ stored_axial axial }
 {
+    let size = axial.unsigned_abs();
     if axial < 0 {
-        2 * ((-1 - axial) as u32) + 1
+        2 * (size - 1) + 1
     } else {
-        2 * (axial as u32)
+        2 * size
     }
 }
 
-pub fn column_of(fields: &[u32]) -> Column
-    requires { field_count ≤ length fields.now }
+// Fields 5, 8 to 13 and 30.
+fn column_of(fields: &[u32; FIELD_COUNT]) -> Column
     ensures { result ≡ column_of fields.now }
 {
     Column {
@@ -50,8 +53,8 @@ pub fn column_of(fields: &[u32]) -> Column
     }
 }
 
-pub fn bolts_of(fields: &[u32]) -> Bolts
-    requires { field_count ≤ length fields.now }
+// Fields 3 and 4.
+fn bolts_of(fields: &[u32; FIELD_COUNT]) -> Bolts
     ensures { result ≡ bolts_of fields.now }
 {
     Bolts {
@@ -60,83 +63,89 @@ pub fn bolts_of(fields: &[u32]) -> Bolts
     }
 }
 
-// The parts of a face, from the numbers of its part of the file: `sixth` is the place of field 6, `fourteenth` that of field 14. What is
-// open here with a `requires` is so for the crate of words.
-fn beam_of(numbers: &[u32], sixth: usize, fourteenth: usize) -> Beam
-    requires { PlacesWithin numbers.now sixth fourteenth }
-    ensures { result ≡ beam_of numbers.now sixth fourteenth }
-{
-    Beam {
-        grade: numbers[sixth],
-        depth: numbers[fourteenth],
-        width: numbers[fourteenth + 1],
-        flange: numbers[fourteenth + 2],
-        web: numbers[fourteenth + 3],
-    }
+// A face's part of the file: its numbers, fields 1 and 2 first, and among them the places of field 6, with 7 after it, and of field 14,
+// with 15 to 29 after it.
+#[derive(Clone, Copy)]
+struct FacePart<'a> {
+    numbers: &'a [u32],
+    sixth: usize,
+    fourteenth: usize,
+    ghost within: { PlacesWithin numbers.now sixth fourteenth },
 }
 
-fn plate_of(numbers: &[u32], sixth: usize, fourteenth: usize) -> Plate
-    requires { PlacesWithin numbers.now sixth fourteenth }
-    ensures { result ≡ plate_of numbers.now sixth fourteenth }
-{
-    Plate {
-        grade: numbers[sixth + 1],
-        width: numbers[fourteenth + 4],
-        thickness: numbers[fourteenth + 5],
+impl FacePart<'_> {
+    fn beam(&self) -> Beam
+        ensures { result ≡ beam_of self.now.numbers.now self.now.sixth self.now.fourteenth }
+    {
+        let at = self.fourteenth;
+        Beam {
+            grade: self.numbers[self.sixth],
+            depth: self.numbers[at],
+            width: self.numbers[at + 1],
+            flange: self.numbers[at + 2],
+            web: self.numbers[at + 3],
+        }
     }
-}
 
-fn layout_of(numbers: &[u32], fourteenth: usize) -> Layout
-    requires { PlacesWithin numbers.now 0 fourteenth }
-    ensures { result ≡ layout_of numbers.now fourteenth }
-{
-    Layout {
-        gauge: numbers[fourteenth + 6],
-        edge: numbers[fourteenth + 7],
-        alpha: numbers[fourteenth + 8],
+    fn plate(&self) -> Plate
+        ensures { result ≡ plate_of self.now.numbers.now self.now.sixth self.now.fourteenth }
+    {
+        Plate {
+            grade: self.numbers[self.sixth + 1],
+            width: self.numbers[self.fourteenth + 4],
+            thickness: self.numbers[self.fourteenth + 5],
+        }
     }
-}
 
-fn welds_of(numbers: &[u32], fourteenth: usize) -> Welds
-    requires { PlacesWithin numbers.now 0 fourteenth }
-    ensures { result ≡ welds_of numbers.now fourteenth }
-{
-    Welds {
-        flange: numbers[fourteenth + 9],
-        web: numbers[fourteenth + 10],
-        length: numbers[fourteenth + 11],
+    fn layout(&self) -> Layout
+        ensures { result ≡ layout_of self.now.numbers.now self.now.fourteenth }
+    {
+        Layout {
+            gauge: self.numbers[self.fourteenth + 6],
+            edge: self.numbers[self.fourteenth + 7],
+            alpha: self.numbers[self.fourteenth + 8],
+        }
     }
-}
 
-fn loads_of(numbers: &[u32], fourteenth: usize) -> Loads
-    requires { PlacesWithin numbers.now 0 fourteenth }
-    ensures { result ≡ loads_of numbers.now fourteenth }
-{
-    Loads {
-        axial: axial_of(numbers[fourteenth + 13]),
-        shear: numbers[fourteenth + 14],
-        moment: numbers[fourteenth + 15],
+    fn welds(&self) -> Welds
+        ensures { result ≡ welds_of self.now.numbers.now self.now.fourteenth }
+    {
+        Welds {
+            flange: self.numbers[self.fourteenth + 9],
+            web: self.numbers[self.fourteenth + 10],
+            length: self.numbers[self.fourteenth + 11],
+        }
     }
-}
 
-pub fn face_of(numbers: &[u32], sixth: usize, fourteenth: usize, levers: [u32; 8]) -> Face
-    requires { PlacesWithin numbers.now sixth fourteenth }
-    ensures { result ≡ face_of numbers.now sixth fourteenth levers }
-{
-    Face {
-        rows: numbers[0],
-        extended: numbers[1],
-        beam: beam_of(numbers, sixth, fourteenth),
-        plate: plate_of(numbers, sixth, fourteenth),
-        layout: layout_of(numbers, fourteenth),
-        welds: welds_of(numbers, fourteenth),
-        shear_rows: numbers[fourteenth + 12],
-        loads: loads_of(numbers, fourteenth),
-        levers,
+    fn loads(&self) -> Loads
+        ensures { result ≡ loads_of self.now.numbers.now self.now.fourteenth }
+    {
+        Loads {
+            axial: axial_of(self.numbers[self.fourteenth + 13]),
+            shear: self.numbers[self.fourteenth + 14],
+            moment: self.numbers[self.fourteenth + 15],
+        }
+    }
+
+    fn face(&self, levers: [u32; 8]) -> Face
+        ensures { result ≡ face_of self.now.numbers.now self.now.sixth self.now.fourteenth levers }
+    {
+        Face {
+            rows: self.numbers[0],
+            extended: self.numbers[1],
+            beam: self.beam(),
+            plate: self.plate(),
+            layout: self.layout(),
+            welds: self.welds(),
+            shear_rows: self.numbers[self.fourteenth + 12],
+            loads: self.loads(),
+            levers,
+        }
     }
 }
 
 // The joint that has these fields before the levers, and these levers; its second face has these numbers of its own, and these levers.
+#[tactic(auto, unfolding(crate::specs::Fields::joint_of))]
 pub fn joint_of(
     fields: [u32; FIELD_COUNT],
     levers: [u32; 8],
@@ -145,20 +154,29 @@ pub fn joint_of(
 ) -> Joint
     ensures { result ≡ joint_of fields levers own other_levers }
 {
+    let first = FacePart {
+        numbers: &fields,
+        sixth: 5,
+        fourteenth: 13,
+    };
+    let second = FacePart {
+        numbers: &own,
+        sixth: 2,
+        fourteenth: 4,
+    };
     Joint {
         column: column_of(&fields),
         bolts: bolts_of(&fields),
-        face: face_of(&fields, 5, 13, levers),
-        other: face_of(&own, 2, 4, other_levers),
+        face: first.face(levers),
+        other: second.face(other_levers),
     }
 }
 
 // The fields of a column, its bolts and one face before the levers.
+#[tactic(auto, unfolding(crate::specs::Fields::fields_of))]
 pub fn fields_of(column: Column, bolts: Bolts, face: Face) -> [u32; FIELD_COUNT]
     ensures { result ≡ fields_of column bolts face }
 {
-    let loads = face.loads;
-    let axial = stored_axial(loads.axial);
     [
         face.rows,
         face.extended,
@@ -186,14 +204,15 @@ pub fn fields_of(column: Column, bolts: Bolts, face: Face) -> [u32; FIELD_COUNT]
         face.welds.web,
         face.welds.length,
         face.shear_rows,
-        axial,
-        loads.shear,
-        loads.moment,
+        stored_axial(face.loads.axial),
+        face.loads.shear,
+        face.loads.moment,
         column.end_distance,
     ]
 }
 
 // Of fields 1 to 30 those that a second face has of its own.
+#[tactic(auto, unfolding(crate::specs::Fields::own_of))]
 pub fn own_of(fields: [u32; FIELD_COUNT]) -> [u32; OWN_COUNT]
     ensures { result ≡ own_of fields }
 {

@@ -153,30 +153,6 @@ pub fn first_face(face: Face) -> Face
     first
 }
 
-// The axial force N by its sign, with its size in newtons.
-#[derive(Clone, Copy)]
-pub enum AxialForce {
-    Compression(u32),
-    Tension(u32),
-}
-
-// N by its sign.
-impl From<i32> for AxialForce {
-    ghost use Rattle.joint.specs.Axial.{axial_force};
-
-    ghost from_gives = { λ axial force. force ≡ axial_force axial };
-
-    #[tactic(auto, using(crate::proofs::Axial::case_by_sign))]
-    fn from(axial: i32) -> AxialForce {
-        let size = axial.unsigned_abs();
-        if axial < 0 {
-            AxialForce::Tension(size)
-        } else {
-            AxialForce::Compression(size)
-        }
-    }
-}
-
 // Refusal 10: the first field that is out of its range, by its number.
 #[derive(Clone, Copy, PartialEq, Eq, Debug)]
 pub struct OutOfRange {

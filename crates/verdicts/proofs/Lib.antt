@@ -1,3 +1,3 @@
--- The bending rule by the sign of N, and what row forces come to.
-pub mod Signs
+-- The bending rule, and what row forces come to.
+pub mod Bending
 pub mod Tallying

@@ -16,7 +16,7 @@ ghost use Rattle.verdicts.specs.Asked.{most_moment, TallyAsked, BendingAsked, Be
 ghost use Rattle.verdicts.specs.Asked.{WeldAsked, FlangeWeldAsked};
 
 use arithmetic::least;
-use joint::{AxialForce, Beam, Column, Face, Loads, Plate};
+use joint::{Beam, Column, Face, Loads, Plate};
 use strength::BoltStrengths;
 
 // What row forces come to.
@@ -59,18 +59,14 @@ fn force_count(force: u64) -> u64
     if force == 0 { 0 } else { 1 }
 }
 
-// Bending: N's term is added on the side on which it isn't below 0.
+// Bending, in whole numbers with a sign: a tension adds to what is asked.
 pub fn carries_moment(loads: Loads, beam: Beam, moment: u64) -> bool
     requires { BendingAsked loads beam moment }
     ensures { result ≡ carries loads beam moment }
 {
-    let arm = (beam.depth - beam.flange) as u64;
-    let asked = 20000 * (loads.moment as u64);
-    let axial = joint::axial_force(loads.axial);
-    match axial {
-        AxialForce::Compression(n) => asked <= 2 * moment + (n as u64) * arm,
-        AxialForce::Tension(n) => asked + (n as u64) * arm <= 2 * moment,
-    }
+    let arm = (beam.depth - beam.flange) as i64;
+    let asked = 20000 * (loads.moment as i64) - (loads.axial as i64) * arm;
+    asked <= 2 * (moment as i64)
 }
 
 // A pair of bolts bearing on a plate or a flange.

@@ -1,69 +1,27 @@
--- `carries_moment` meets its contract: on either sign of N the rule is the one in whole numbers with a sign (the laws of `Signs`).
--- Assumes nothing.
-use mathlib.Core.Path.{◌≡◌}
-use Prim.Native.Nat.{ℕ, ◌-◌, ◌*◌, ◌≤◌}
+-- `carries_moment` meets its contract: in whole numbers of 64 bits with a sign both sides are themselves. Assumes nothing.
+use mathlib.Core.Path.{ap₂}
+use Prim.Native.Nat.{◌≤◌, ◌*◌, ◌-◌}
 use native.Mathlib.Nat.{mul-le-mul}
-use native.Mathlib.Omega.{arith}
+use Rattle.std.proofs.Common.{◌≡◌, arith, w32, w64, ℤ, pos, ◌-ℤ◌, ◌*ℤ◌, to_z, of_z}
+use Rattle.std.specs.Prelude.{unsigned_abs}
+use Rattle.std.proofs.lemmas.Int.{ints, unsigned_abs-mul}
+use lib.Signed.{le_z}
 use Rattle.joint.specs.Ranges.{depths, loads}
-use Rattle.joint.specs.Axial.{axial_force}
-use Rattle.joint.specs.declared.AxialForce.TheVariants.{Compression, Tension}
-use Rattle.joint.proofs.Axial.{case_of, size_of_compression, size_of_tension}
-use Rattle.verdicts.proofs.Signs.{carries_in_compression, carries_in_tension}
-use borrow.Author.Rules.{rules}
+use Rattle.verdicts.specs.Bending.{carries}
 use Rattle.verdicts.proofs.carries_moment.Goals as goal
-use Rattle.verdicts.proofs.carries_moment.Goals.{In-Compression, In-Tension}
 
--- the product of N and the arm
-product_le : (n depth flange : ℕ) → n ≤ loads.high → depth ≤ depths.high → n * (depth - flange) ≤ loads.high * depths.high
-product_le n depth flange hn hd = mul-le-mul {n₁ = n} {m₁ = depth - flange} {n₂ = loads.high} {m₂ = depths.high} hn (omega arith)
-
--- which way N goes
-compression : (c : In-Compression) → axial_force c.args.loads.axial ≡ Compression c.in-Compression.n
-compression c =
-    case_of _ (search rules) _ _ c.axial_force-axial.ensures c.in-Compression.is
-
-pushed : (c : In-Compression) → (let beam = c.args.beam in c.in-Compression.n * (beam.depth - beam.flange) ≤ loads.high * depths.high)
-pushed c =
-    let size = size_of_compression c.args.loads.axial c.in-Compression.n (compression c) in
-    product_le _ c.args.beam.depth c.args.beam.flange
-    (omega (arith, size, c.requires.loads.axial.high)) c.requires.beam.depth.high
-
-tension : (c : In-Tension) → axial_force c.args.loads.axial ≡ Tension c.in-Tension.n
-tension c =
-    case_of _ (search rules) _ _ c.axial_force-axial.ensures c.in-Tension.is
-
-drawn : (c : In-Tension) → (let beam = c.args.beam in c.in-Tension.n * (beam.depth - beam.flange) ≤ loads.high * depths.high)
-drawn c =
-    let size = size_of_tension c.args.loads.axial c.in-Tension.n (tension c) in
-    product_le _ c.args.beam.depth c.args.beam.flange
-    (omega (arith, size, c.requires.loads.axial.high)) c.requires.beam.depth.high
-
-pub overflow_mul-result-in-Compression : goal.overflow_mul-result-in-Compression
-overflow_mul-result-in-Compression c =
-    let here = goal.at.overflow_mul-result-in-Compression c in
-    omega (arith, (pushed here.In-Compression))
-
-pub overflow_add-result : goal.overflow_add-result
-overflow_add-result c =
-    let here = goal.at.overflow_add-result c in
-    omega (arith, (pushed here.In-Compression), c.requires.moment_most)
-
-pub overflow_mul-result-in-Tension : goal.overflow_mul-result-in-Tension
-overflow_mul-result-in-Tension c =
-    let here = goal.at.overflow_mul-result-in-Tension c in
-    omega (arith, (drawn here.In-Tension))
-
-pub overflow_add-result-in-Tension : goal.overflow_add-result-in-Tension
-overflow_add-result-in-Tension c =
-    let here = goal.at.overflow_add-result-in-Tension c in
-    omega (arith, (drawn here.In-Tension), c.requires.loads.moment.high)
-
-pub returns-in-Compression : goal.returns-in-Compression
-returns-in-Compression c =
-    let here = goal.at.returns-in-Compression c in
-    let a = c.args in carries_in_compression a.loads a.beam a.moment _ (compression here.In-Compression)
-
-pub returns-in-Tension : goal.returns-in-Tension
-returns-in-Tension c =
-    let here = goal.at.returns-in-Tension c in
-    let a = c.args in carries_in_tension a.loads a.beam a.moment _ (tension here.In-Tension)
+pub returns : goal.returns
+unfolding carries
+returns c =
+    let a = c.args in
+    let r = c.requires in
+    let n = a.loads.axial in
+    let arm = a.beam.depth - a.beam.flange in
+    let size : unsigned_abs (n *ℤ pos arm) ≤ loads.high * depths.high
+    = rw unsigned_abs-mul (mul-le-mul {n₁ = unsigned_abs n} {m₁ = arm} {n₂ = loads.high} {m₂ = depths.high} r.loads.axial.high (omega (arith, r.beam.depth.high))) in
+    let long : to_z w64 arm ≡ pos arm = omega (arith, ints, r.beam.depth.high) in
+    let wide : to_z w64 (of_z w64 (to_z w32 (of_z w32 n))) ≡ n = omega (arith, ints, r.loads.axial) in
+    let less : (p : ℤ) → unsigned_abs p ≤ loads.high * depths.high → to_z w64 (of_z w64 (to_z w64 (of_z w64 (pos 20000 *ℤ to_z w64 a.loads.moment)) -ℤ to_z w64 (of_z w64 p))) ≡ pos (20000 * a.loads.moment) -ℤ p
+    = λ p small. omega (arith, ints, small, r.loads.moment.high) in
+    let twice : to_z w64 (of_z w64 (pos 2 *ℤ to_z w64 a.moment)) ≡ pos (2 * a.moment) = omega (arith, ints, r.moment_most) in
+    ap₂ le_z (rw (wide, long) (less (n *ℤ pos arm) size)) twice
