@@ -1,6 +1,6 @@
--- Counting the groups of a row into the sums, one store a group, from the longest group to the shortest.
+-- Counting the groups that begin at one row into the sums, one store a group, from the longest group to the shortest.
 -- Assumes nothing.
-use mathlib.Core.Path.{◌≡◌, refl, sym, ap, ◌∙◌}
+use mathlib.Core.Path.{◌≡◌, ap₂, ◌∙◌}
 use mathlib.Core.Logic.{⊎_elim}
 use Prim.Native.Nat.{ℕ, suc, ◌+◌, ◌-◌, ◌≤◌, ◌<◌, min}
 use native.Mathlib.Nat.{eq-or-lt_of_le}
@@ -8,53 +8,52 @@ use native.Mathlib.Omega.{arith}
 use mathlib.Core.List.{List}
 use lib.ListN.{length, get_or, set, length-set}
 use lib.Seq.{get_or-set_same, get_or-set_other}
-use Rattle.sharing.specs.Groups.{group_count, groups_above, listed, most_limit}
+use Rattle.sharing.specs.Groups.{most_limit}
 use Rattle.sharing.specs.Sharing.{lowered}
-use Rattle.sharing.proofs.Places.{groups_inside}
-use Rattle.sharing.proofs.Lowering.{lowered_le, lowered_last, lowered_next}
-use Rattle.allocation.specs.Steps.{Shareable, Counted}
+use Rattle.sharing.proofs.Lowering.{lowered_last, lowered_next}
+use Rattle.allocation.specs.Steps.{own_table, Countable, Counted}
 
-module _ (n : ℕ) (limits : List ℕ) where
-  -- a group's limit has its place in the list
-  pub place_inside : Shareable n limits → (i j first : ℕ) → first ≡ groups_above n i → i ≤ j → j < n → first + (j - i) < group_count n
-  place_inside s i j first e h inside = omega (arith, groups_inside n i (omega arith))
+-- How things stand when the groups that end at row `last` or below are counted: the lowered limit of the last one counted, and before the
+-- first nothing is lowered.
+pub record CountedFrom (limits : List ℕ) (row n above last low : ℕ) (sums₀ sums : List ℕ) : Type 0 where
+  pub from_row : row ≤ last
+  pub small : low ≤ most_limit
+  pub none : n ≤ last → low ≡ most_limit
+  pub least : last < n → low ≡ lowered (own_table limits row) n row last
+  pub counted : Counted (own_table limits row) n row above last sums₀ sums
 
-  pub limit_le : Shareable n limits → (i j : ℕ) → i ≤ j → j < n → listed n limits i j ≤ most_limit
-  unfolding listed
-  limit_le s i j h inside = s.bounded _ (place_inside s i j _ refl h inside)
+module _ (limits : List ℕ) (row n above : ℕ) (asked : Countable limits row n above) (sums₀ : List ℕ) (places : n ≤ length sums₀) where
+  -- a group's lowered limit, by that of the next longer one
+  lower : (last low : ℕ) (sums : List ℕ) → row ≤ last → last < n → CountedFrom limits row n above (suc last) low sums₀ sums
+      → min low (get_or limits (last - row) 0) ≡ lowered (own_table limits row) n row last
+  lower last low sums h inside c =
+      let limit = own_table limits row in
+      ⊎_elim
+      (λ longest. omega (arith, c.none (omega (arith, longest)), asked.bounded (last - row) (omega arith), lowered_last limit n row last longest))
+      (λ shorter. omega (arith, c.least shorter, lowered_next limit n row last shorter))
+      (eq-or-lt_of_le inside)
 
-  pub lowered_le_most : Shareable n limits → (i j : ℕ) → i ≤ j → j < n → lowered (listed n limits) n i j ≤ most_limit
-  lowered_le_most s i j h inside = omega (arith, lowered_le (listed n limits) n i j, limit_le s i j h inside)
-
-  -- lowering from the longest group on
-  pub lowest : (row first last : ℕ) → first ≡ groups_above n row → suc last ≡ n
-      → get_or limits (first + (last - row)) 0 ≡ lowered (listed n limits) n row last
-  unfolding listed
-  lowest row first last e end =
-      ap (λ f. get_or limits (f + (last - row)) 0) e ∙ sym (lowered_last (listed n limits) n row last end)
-
-  pub lower : (row first last low : ℕ) → first ≡ groups_above n row → suc last < n → low ≡ lowered (listed n limits) n row (suc last)
-      → min (get_or limits (first + (last - row)) 0) low ≡ lowered (listed n limits) n row last
-  unfolding listed
-  lower row first last low e inside el =
-      (λ i. min (get_or limits (e i + (last - row)) 0) (el i)) ∙ sym (lowered_next (listed n limits) n row last inside)
-
-  module _ (row above : ℕ) (sums₀ : List ℕ) where
-    pub none_counted : Counted n limits row above n sums₀ sums₀
-    none_counted = record { size = refl; stay = λ k h. refl; counted = λ k h inside. absurd (omega arith) }
-
-    -- one group more: the one that ends at row `last`
-    pub one_more : (last next low stored : ℕ) (sums : List ℕ) → last < length sums → last ≡ next
-        → low ≡ lowered (listed n limits) n row last → stored ≡ min (get_or sums last 0) (above + low)
-        → Counted n limits row above (suc last) sums₀ sums → Counted n limits row above next sums₀ (set sums last stored)
-    one_more last next low stored sums inside here e es c =
-        record {
-          size = length-set sums last _ ∙ c.size;
-          stay = λ k h. get_or-set_other sums last k _ 0 (omega arith) ∙ c.stay k (omega arith);
-          counted = λ k h under.
+  -- one group more
+  pub one_more : (next last low lower_by stored : ℕ) (sums : List ℕ) → next ≡ suc last → row ≤ last → last < n
+      → CountedFrom limits row n above next low sums₀ sums → lower_by ≡ min low (get_or limits (last - row) 0)
+      → stored ≡ min (get_or sums last 0) (above + lower_by)
+      → CountedFrom limits row n above last lower_by sums₀ (set sums last stored)
+  one_more next last low lower_by stored sums e h inside c el es =
+      let at : CountedFrom limits row n above (suc last) low sums₀ sums = rw e at c in
+      let own = el ∙ lower last low sums h inside at in
+      let held : last < length sums = omega (arith, c.counted.size) in
+      record {
+        from_row = h;
+        small = omega (arith, c.small);
+        none = λ past. absurd (omega arith);
+        least = λ _. own;
+        counted = record {
+          size = length-set sums last _ ∙ c.counted.size;
+          stay = λ k hk. get_or-set_other sums last k _ 0 (omega arith) ∙ c.counted.stay k (omega arith);
+          counted = λ k hk under.
               ⊎_elim
-              (λ same. rw (← same)
-              (get_or-set_same sums last _ 0 inside ∙ es ∙ λ i. min (c.stay last (omega arith) i) (above + e i)))
-              (λ past. get_or-set_other sums last k _ 0 (omega arith) ∙ c.counted k past under)
-              (eq-or-lt_of_le (rw (← here) at h));
-        }
+              (λ same. rw (← same) (get_or-set_same sums last _ 0 held ∙ es ∙ ap₂ (λ a b. min a (above + b)) (c.counted.stay last (omega arith)) own))
+              (λ past. get_or-set_other sums last k _ 0 (omega arith) ∙ c.counted.counted k (omega arith) under)
+              (eq-or-lt_of_le hk);
+        };
+      }

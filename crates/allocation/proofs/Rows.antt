@@ -8,17 +8,19 @@ use native.Mathlib.Nat.{le_refl, le_trans, le_antisymm, le-min, min-le_left, min
 use native.Mathlib.Omega.{arith}
 use native.Mathlib.Numerals.{add-one}
 use mathlib.Core.List.{List, [], ◌∷◌, ◌++◌}
-use lib.ListN.{length, get_or, set, replicate, get_or-replicate}
+use lib.ListN.{length, get_or, set, take, drop, replicate, get_or-replicate}
 use lib.Seq.{set_at, append_snoc}
-use Rattle.sharing.specs.Groups.{Table, total, groups_above, listed, most_limit}
+use Rattle.std.proofs.Common.{length-drop, drop-drop}
+use Rattle.std.proofs.lemmas.List.{length-take-le, get_or-take, get_or-drop}
+use Rattle.sharing.specs.Groups.{Table, total, groups_above, place_of, listed, most_limit}
+use Rattle.sharing.proofs.Places.{groups_inside}
 use Rattle.sharing.proofs.Totals.{total-append}
 use Rattle.sharing.specs.Sharing.{lowered, next_force, forces_down_to, shared}
 use Rattle.sharing.proofs.Lowering.{lowered_le}
 use Rattle.sharing.proofs.Sums.{sum_down_to, length_forces, sum_step, sum_le, le_sum}
-use Rattle.allocation.specs.Allocation.{}
 use Rattle.joint.specs.Places.{eight_places}
-use Rattle.allocation.specs.Steps.{Shareable, Counted}
-use Rattle.allocation.proofs.Counting.{limit_le}
+use Rattle.sharing.proofs.Agreement.{lowered_agrees}
+use Rattle.allocation.specs.Steps.{Shareable, own_table, Countable, Counted}
 
 -- What the groups that begin at the first r rows allow the sum down to row k to be.
 unfoldable pub allowed : Table → ℕ → ℕ → ℕ → ℕ
@@ -26,9 +28,9 @@ allowed limit n zero k = most_limit
 allowed limit n (suc r) k = min (allowed limit n r k) (sum_down_to limit n r + lowered limit n r k)
 
 -- How things stand when `row` rows have their forces.
-pub record SharedDownTo (n : ℕ) (limits : List ℕ) (forces sums : List ℕ) (above first row : ℕ) : Type 0 where
+pub record SharedDownTo (n : ℕ) (limits : List ℕ) (forces sums : List ℕ) (above : ℕ) (rest : List ℕ) (row : ℕ) : Type 0 where
   pub rows : row ≤ n
-  pub place : first ≡ groups_above n row
+  pub place : rest ≡ drop (groups_above n row) limits
   pub sum : above ≡ sum_down_to (listed n limits) n row
   pub got : forces ≡ forces_down_to (listed n limits) n row ++ replicate (8 - row) 0
   pub size : length sums ≡ 8
@@ -51,12 +53,16 @@ fill got row empty value e =
     set_at got 0 (replicate empty 0) value row e ∙ sym (append_snoc got value (replicate empty 0))
 
 module _ (n : ℕ) (limits : List ℕ) (s : Shareable n limits) where
+  limit_le : (i j : ℕ) → i ≤ j → j < n → listed n limits i j ≤ most_limit
+  unfolding listed
+  limit_le i j h inside = s.bounded (place_of n i j) (omega (arith, groups_inside n i (omega arith)))
+
   pub sum_le_most : (k : ℕ) → k ≤ n → sum_down_to (listed n limits) n k ≤ most_limit
   unfolding sum_down_to forces_down_to
   sum_le_most zero h = omega arith
   sum_le_most (suc k) h =
       let limit = listed n limits in
-      omega (arith, sum_le limit n k 0 h (omega arith), lowered_le limit n 0 k, limit_le n limits s 0 k (omega arith) h)
+      omega (arith, sum_le limit n k 0 h (omega arith), lowered_le limit n 0 k, limit_le 0 k (omega arith) h)
 
   -- the groups down to row r allow the shared sum
   sum_le_allowed : (k r : ℕ) → r ≤ suc k → k < n → sum_down_to (listed n limits) n (suc k) ≤ allowed (listed n limits) n r k
@@ -81,7 +87,7 @@ module _ (n : ℕ) (limits : List ℕ) (s : Shareable n limits) where
       (le_sum (listed n limits) n k _ (λ i h. allowed_le k (suc k) i (omega arith)))
       (sum_le_allowed k (suc k) (le_refl (suc k)) inside)
 
-  pub start : SharedDownTo n limits (replicate 8 0) (replicate 8 most_limit) 0 0 0
+  pub start : SharedDownTo n limits (replicate 8 0) (replicate 8 most_limit) 0 limits 0
   unfolding sum_down_to forces_down_to groups_above allowed
   start =
       record {
@@ -93,48 +99,75 @@ module _ (n : ℕ) (limits : List ℕ) (s : Shareable n limits) where
         left = λ k h inside. get_or-replicate 8 k most_limit 0 (omega (arith, s.rows));
       }
 
-  module _ (forces sums : List ℕ) (above first row : ℕ) (d : SharedDownTo n limits forces sums above first row) (inside : row < n)
-      (sums' : List ℕ) (c : Counted n limits row above row sums sums') where
-    counted_is_allowed : (k : ℕ) → row ≤ k → k < n → get_or sums' k 0 ≡ allowed (listed n limits) n (suc row) k
-    unfolding allowed
-    counted_is_allowed k h under =
-        c.counted k h under ∙ λ i. min (d.left k h under i) (d.sum i + lowered (listed n limits) n row k)
+  module _ (forces sums : List ℕ) (above : ℕ) (rest : List ℕ) (row : ℕ) (d : SharedDownTo n limits forces sums above rest row)
+      (inside : row < n) where
+    pub rest_length : n - row ≤ length rest
+    rest_length = omega (arith, ap length d.place, length-drop (groups_above n row) limits, groups_inside n row inside, s.enough)
 
-    pub down : get_or sums' row 0 ≡ sum_down_to (listed n limits) n (suc row)
-    down = counted_is_allowed row (le_refl row) inside ∙ allowed_is_sum row inside
+    module _ (own : List ℕ) (e : own ≡ take (n - row) rest) where
+      -- the limits of the groups that begin at the row are the first of those that are left
+      own_limit : (j : ℕ) → row ≤ j → j < n → get_or own (j - row) 0 ≡ listed n limits row j
+      unfolding listed
+      own_limit j h under =
+          ap (λ xs. get_or xs (j - row) 0) e
+          ∙ get_or-take (n - row) rest (j - row) 0 (omega arith)
+          ∙ ap (λ xs. get_or xs (j - row) 0) d.place
+          ∙ get_or-drop (groups_above n row) limits (j - row) 0
 
-    pub down_grows : above ≤ get_or sums' row 0
-    down_grows = omega (arith, d.sum, down, sum_step (listed n limits) n row)
+      pub countable : Countable own row n above
+      countable = record {
+        inside = inside;
+        rows = s.rows;
+        places = omega (arith, ap length e, length-take-le (n - row) rest rest_length);
+        bounded = λ k h.
+            let along : row + k - row ≡ k = omega arith in
+            let limit = rw along at (own_limit (row + k) (omega arith) (omega arith)) in
+            rw limit (limit_le row (row + k) (omega arith) (omega arith));
+        small = omega (arith, d.sum, sum_le_most row d.rows);
+      }
 
-    force : get_or sums' row 0 - above ≡ next_force (listed n limits) n (forces_down_to (listed n limits) n row)
-    force = omega (arith, d.sum, down, sum_step (listed n limits) n row)
+      module _ (sums' : List ℕ) (c : Counted (own_table own row) n row above row sums sums') where
+        counted_is_allowed : (k : ℕ) → row ≤ k → k < n → get_or sums' k 0 ≡ allowed (listed n limits) n (suc row) k
+        unfolding allowed
+        counted_is_allowed k h under =
+            let same = lowered_agrees (own_table own row) (listed n limits) n row k under (λ last hl under_n. own_limit last (omega arith) under_n) in
+            c.counted k h under ∙ λ i. min (d.left k h under i) (d.sum i + same i)
 
-    stored : set forces row (get_or sums' row 0 - above) ≡ forces_down_to (listed n limits) n (suc row) ++ replicate (8 - suc row) 0
-    unfolding forces_down_to
-    stored =
-        let places : 8 - row ≡ suc (8 - suc row) = omega (arith, s.rows) in
-        ap₂ (λ xs x. set xs row x) (d.got ∙ ap (λ m. forces_down_to (listed n limits) n row ++ replicate m 0) places) force
-        ∙ fill (forces_down_to (listed n limits) n row) row (8 - suc row)
-        (next_force (listed n limits) n (forces_down_to (listed n limits) n row))
-        (length_forces (listed n limits) n row)
+        pub down : get_or sums' row 0 ≡ sum_down_to (listed n limits) n (suc row)
+        down = counted_is_allowed row (le_refl row) inside ∙ allowed_is_sum row inside
 
-    pub turn : SharedDownTo n limits (set forces row (get_or sums' row 0 - above)) sums' (get_or sums' row 0) (first + (n - row)) (row + 1)
-    unfolding groups_above
-    turn =
-        rw (add-one row)
-        (record {
-          rows = inside;
-          place = ap (λ f. f + (n - row)) d.place;
-          sum = down;
-          got = stored;
-          size = c.size ∙ d.size;
-          left = λ k h under. counted_is_allowed k (omega arith) under;
-        })
+        pub down_grows : above ≤ get_or sums' row 0
+        down_grows = omega (arith, d.sum, down, sum_step (listed n limits) n row)
 
-  pub finish : (forces sums : List ℕ) (above first row : ℕ) → SharedDownTo n limits forces sums above first row → n ≤ row
+        force : get_or sums' row 0 - above ≡ next_force (listed n limits) n (forces_down_to (listed n limits) n row)
+        force = omega (arith, d.sum, down, sum_step (listed n limits) n row)
+
+        stored : set forces row (get_or sums' row 0 - above) ≡ forces_down_to (listed n limits) n (suc row) ++ replicate (8 - suc row) 0
+        unfolding forces_down_to
+        stored =
+            let places : 8 - row ≡ suc (8 - suc row) = omega (arith, s.rows) in
+            ap₂ (λ xs x. set xs row x) (d.got ∙ ap (λ m. forces_down_to (listed n limits) n row ++ replicate m 0) places) force
+            ∙ fill (forces_down_to (listed n limits) n row) row (8 - suc row)
+            (next_force (listed n limits) n (forces_down_to (listed n limits) n row))
+            (length_forces (listed n limits) n row)
+
+        pub turn : SharedDownTo n limits (set forces row (get_or sums' row 0 - above)) sums' (get_or sums' row 0) (drop (n - row) rest) (row + 1)
+        unfolding groups_above
+        turn =
+            rw (add-one row)
+            (record {
+              rows = inside;
+              place = ap (drop (n - row)) d.place ∙ drop-drop (n - row) (groups_above n row) limits;
+              sum = down;
+              got = stored;
+              size = c.size ∙ d.size;
+              left = λ k h under. counted_is_allowed k (omega arith) under;
+            })
+
+  pub finish : (forces sums : List ℕ) (above : ℕ) (rest : List ℕ) (row : ℕ) → SharedDownTo n limits forces sums above rest row → n ≤ row
       → forces ≡ eight_places (shared (listed n limits) n)
   unfolding eight_places shared
-  finish forces sums above first row d past =
+  finish forces sums above rest row d past =
       let all : row ≡ n = omega (arith, d.rows) in
       d.got
       ∙ ap (λ k. forces_down_to (listed n limits) n k ++ replicate (8 - k) 0) all

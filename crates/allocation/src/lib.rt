@@ -9,9 +9,7 @@ ghost use Rattle.sharing.specs.Sharing.{shared};
 ghost use Rattle.sharing.specs.Best.{Best};
 ghost use Rattle.allocation.specs.Allocation.{none_above, allocated};
 ghost use Rattle.allocation.specs.Answers.{number_of, allocation_meaning};
-ghost use Rattle.allocation.specs.Steps.{Shareable, Countable, Counted};
-
-use arithmetic::least;
+ghost use Rattle.allocation.specs.Steps.{Shareable, own_table, Countable, Counted};
 
 // No limit above this is taken: refusal 8.
 const MOST: u64 = 4_000_000_000;
@@ -72,41 +70,26 @@ pub fn share(count: usize, limits: &[u64]) -> [u64; 8]
     let mut forces = [0u64; 8];
     let mut sums = [MOST; 8];
     let mut above = 0;
-    let mut first = 0;
-    let mut row = 0;
-    while row < count {
-        count_groups(&mut sums, limits, first, row, count, above);
-        let down = sums[row];
-        let force = down - above;
-        forces[row] = force;
-        above = down;
-        first += count - row;
-        row += 1;
+    let mut rest = limits;
+    for row in 0..count {
+        let (own, further) = rest.split_at(count - row);
+        count_groups(&mut sums, own, row, count, above);
+        forces[row] = sums[row] - above;
+        above = sums[row];
+        rest = further;
     }
     forces
 }
 
-// Counts the groups that begin at `row` into the sums from the top; their limits stand from `first` on.
-// From the longest group to the shortest, so that each limit is lowered by the last.
-fn count_groups(
-    sums: &mut [u64; 8],
-    limits: &[u64],
-    first: usize,
-    row: usize,
-    count: usize,
-    above: u64,
-)
-    requires { Countable count limits.now first row above sums.old }
-    ensures { Counted count limits.now row above row sums.old sums.new }
+// Counts the groups that begin at `row` into the sums from the top. From the longest group to the shortest, so that each limit is lowered
+// by the last. By index: a part of the sums, with zip and rev, is slower.
+fn count_groups(sums: &mut [u64; 8], limits: &[u64], row: usize, count: usize, above: u64)
+    requires { Countable limits.now row count above }
+    ensures { Counted (own_table limits.now row) count row above row sums.old sums.new }
 {
-    let mut last = count - 1;
-    let mut lowered = limits[first + (last - row)];
-    loop {
-        sums[last] = least(sums[last], above + lowered);
-        if last == row {
-            return;
-        }
-        last -= 1;
-        lowered = least(limits[first + (last - row)], lowered);
+    let mut lowered = MOST;
+    for last in (row..count).rev() {
+        lowered = lowered.min(limits[last - row]);
+        sums[last] = sums[last].min(above + lowered);
     }
 }
