@@ -1,2 +1,2 @@
--- How the answer of a read of the standard input is taken (rule 13.4). Assumes nothing.
+-- What it is to have read an input to its end (rule 13.4). Assumes nothing.
 pub mod Reads

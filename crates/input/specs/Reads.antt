@@ -1,7 +1,9 @@
--- What the answer of a read says: 0 that the input has ended, a count above 0 that it goes on, and an error that the read failed.
--- Assumes nothing.
-use Rattle.std.specs.Prelude.{ℕ, Bool, false, eqb, Result, Ok, Err}
+-- An input read into a space: what was read stands at its front, and where the space isn't full the input has ended. Assumes nothing.
+use Rattle.std.specs.Prelude.{ℕ, ◌≤◌, ◌<◌, List, length, take, Option}
+use Rattle.std.specs.Io.KnownBytes.{Consumes, IsAtEnd}
 
-abbrev pub at_end : {E : Type 0} → Result ℕ E → Bool
-at_end (Ok count) = eqb count 0
-at_end (Err e) = false
+-- the bytes that the input had before and has after, where they are known
+pub record ReadWhole (before after : Option (List ℕ)) (space : List ℕ) (count : ℕ) : Type 0 where
+  pub inside : count ≤ length space
+  pub bytes : Consumes before after (take count space)
+  pub ended : count < length space → IsAtEnd after

@@ -1,38 +1,24 @@
-// Whether an input was read to its end. Half of an input must never be taken for all of it, and `io::read_full` stops at the end and at
-// a failure alike: one read more tells which. For the programs, which ask it of their standard input and say it on standard error.
+// An input read to its end, for the programs, which ask it of their standard input. Half of an input must never be taken for all of it: a
+// read that fails is told, and is no end.
 #![tactic(auto)]
 
-ghost use Rattle.std.specs.Prelude.{◌≤◌, ◌≡◌, true};
-ghost use Rattle.input.specs.Reads.{at_end};
+ghost use Rattle.std.specs.Prelude.{IfOk};
+ghost use Rattle.input.specs.Reads.{ReadWhole};
 
 use std::io;
 use std::io::Read;
 
-// The numbers by which `io` knows the three streams of a program.
-pub const STDIN_FILENO: i32 = 0;
-
-pub const STDOUT_FILENO: i32 = 1;
-
-pub const STDERR_FILENO: i32 = 2;
-
-// Whether a read's answer says that the input has ended.
-fn at_end(answer: io::Result<usize>) -> bool
-    ensures { result ≡ at_end answer }
+// Fills the front of a space with the bytes of an input, all of them or as many as have a place, and answers how many.
+pub fn read_whole<R: Read>(input: &mut R, space: &mut [u8]) -> io::Result<usize>
+    ensures { IfOk result (λ count. ReadWhole (R.remaining input.old) (R.remaining input.new) space.new count) }
 {
-    match answer {
-        Ok(count) => count == 0,
-        Err(_) => false,
+    let mut got = 0;
+    while got < space.len() {
+        let count = input.read(&mut space[got..])?;
+        if count == 0 {
+            break;
+        }
+        got += count;
     }
-}
-
-// Whether the input, of which `got` bytes stand in a space of so many, was read to its end. Of a full space nothing more is asked: it
-// holds too much, whatever follows.
-pub fn was_read_whole<R: Read>(input: &mut R, got: usize, space: usize) -> bool
-    ensures { space ≤ got → result ≡ true }
-{
-    if space <= got {
-        return true;
-    }
-    let mut next = [0u8; 1];
-    at_end(input.read(&mut next))
+    Ok(got)
 }

@@ -5,7 +5,7 @@ use mathlib.Core.Path.{◌≡◌, sym, ap, ◌∙◌}
 use mathlib.Core.List.{List}
 use native.Mathlib.Omega.{arith}
 use lib.ListN.{length, drop, length-append}
-use lib.Seq.{length-take-le}
+
 use Rattle.numbers.specs.Number.{Bytes}
 use Rattle.buffers.specs.Put.{at_front}
 use Rattle.printer.specs.Sheet.{sheet_of}
@@ -30,7 +30,7 @@ module _ (input output exit : List ℕ) (all : Bytes input) (room : most_sheet �
       let inside : size ≤ length exit =
       omega
       (arith, long, ap length bytes, length-append (sheet_of input) (drop (length (sheet_of input)) output)) in
-      record { bytes = bytes; all = long; counts = (inside, sym (length-take-le size exit inside)) }
+      record { bytes = bytes; all = long; inside = inside }
 
   pub never_short : printed ≡ NoRoom → ⊥
   never_short is =

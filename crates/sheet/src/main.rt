@@ -8,20 +8,20 @@ ghost use Rattle.printer.specs.Sheet.{most_input};
 ghost use Rattle.printer.specs.Answers.{most_sheet};
 ghost use Rattle.sheet.specs.Whole.{Whole};
 
-use input::{STDERR_FILENO, STDIN_FILENO, STDOUT_FILENO, was_read_whole};
+use input::read_whole;
 use printer::{MOST_INPUT, MOST_SHEET, Printed};
+use std::io::Write;
 
 // One byte more than a sheet takes, so that an input that is too long is seen to be.
 const INPUT_SPACE: usize = MOST_INPUT + 1;
 
-// Zeros for what is read.
+// Zeros for what is read, and for what is printed: no sheet is longer. In spaces of a fixed size neither can run out of memory.
 fn input_space() -> [u8; INPUT_SPACE]
     ensures { most_input + 1 ≡ length result }
 {
     [0; INPUT_SPACE]
 }
 
-// Zeros for what is printed: no sheet is longer.
 fn output_space() -> [u8; MOST_SHEET]
     ensures { most_sheet ≡ length result }
 {
@@ -42,21 +42,13 @@ fn print_sheet(input: &[u8], output: &mut [u8]) -> usize
 
 fn main(rt: HostRuntime) {
     let mut input = input_space();
-    let got = io::read_full(STDIN_FILENO, &mut input);
-    let mut stdin = rt.stdin();
-    if !was_read_whole(&mut stdin, got, INPUT_SPACE) {
-        io::write_all(
-            STDERR_FILENO,
-            b"sheet: the input could not be read to its end; nothing is printed\n",
-        );
+    let Ok(got) = read_whole(&mut rt.stdin(), &mut input) else {
+        let _told = eprintln!(rt; "sheet: the input could not be read to its end; nothing is printed");
         return;
-    }
+    };
     let mut output = output_space();
     let size = print_sheet(&input[..got], &mut output);
-    if !io::write_all(STDOUT_FILENO, &output[..size]) {
-        io::write_all(
-            STDERR_FILENO,
-            b"sheet: the output could not be written whole; the lines above are not the whole sheet\n",
-        );
+    if rt.stdout().write_all(&output[..size]).is_err() {
+        let _told = eprintln!(rt; "sheet: the output could not be written whole; the lines above are not the whole sheet");
     }
 }
