@@ -5,14 +5,15 @@ use mathlib.Core.Bool.{cond}
 use mathlib.Core.List.{List}
 use native.Mathlib.Numerals.{add-one}
 use native.Mathlib.Omega.{arith}
+use Rattle.std.specs.Prelude.{Ok, Err}
 use lib.Dec.{eqb}
 use lib.ListN.{length, get_or, drop, drop_of_length-le}
 use lib.Seq.{drop-cons}
 use borrow.Author.Tests.{eq-eqb, ne_eqb}
-use Rattle.vectors.specs.declared.compare.Comparison.TheVariants.{Same, Differs, Unreadable}
+use Rattle.vectors.specs.declared.compare.Difference.TheVariants.{Item, Unreadable}
 use Rattle.vectors.specs.Difference.{first_difference, compared}
 
-pub lengths_differ : (are should : List ℕ) → (length are ≡ length should → ⊥) → compared are should ≡ Unreadable
+pub lengths_differ : (are should : List ℕ) → (length are ≡ length should → ⊥) → compared are should ≡ Err Unreadable
 unfolding compared
 lengths_differ are should differ = rw (ne_eqb (length are) (length should) differ) refl
 
@@ -31,7 +32,7 @@ module _ (are should : List ℕ) where
   at_place : (i : ℕ) → Head i → i < length are
       → compared are should
       ≡ cond (eqb (get_or are i 0) (get_or should i 0)) (first_difference (suc (suc i)) (drop (suc i) are) (drop (suc i) should))
-      (Differs (suc i) (get_or are i 0) (get_or should i 0))
+      (Err (Item (suc i) (get_or are i 0) (get_or should i 0)))
   unfolding first_difference
   at_place i head more =
       let there : i < length should = omega (arith, head.alike) in
@@ -45,9 +46,9 @@ module _ (are should : List ℕ) where
   }
 
   pub head_differs : (i : ℕ) → Head i → i < length are → (get_or are i 0 ≡ get_or should i 0 → ⊥)
-      → Differs (i + 1) (get_or are i 0) (get_or should i 0) ≡ compared are should
+      → Err (Item (i + 1) (get_or are i 0) (get_or should i 0)) ≡ compared are should
   head_differs i head more differ = sym (at_place i head more ∙ rw (ne_eqb _ _ differ, add-one) refl)
 
-  pub head_done : (i : ℕ) → Head i → length are ≤ i → Same ≡ compared are should
+  pub head_done : (i : ℕ) → Head i → length are ≤ i → Ok tt ≡ compared are should
   unfolding first_difference
   head_done i head done = sym (head.answer ∙ rw (drop_of_length-le are done) refl)

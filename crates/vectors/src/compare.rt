@@ -2,46 +2,60 @@
 ghost use Rattle.std.specs.Prelude.{◌≡◌};
 ghost use Rattle.vectors.specs.Difference.{compared};
 
-// What comparing them comes to.
-#[derive(Clone, Copy)]
-pub enum Comparison {
-    Same,
+use std::fmt;
+
+// Why a vector did not come out as expected.
+#[derive(Clone, Copy, PartialEq, Eq, Debug)]
+pub enum Difference {
     // the first item, counted from 1, that differs
-    Differs { item: u64, is: u64, should: u64 },
-    BytesDiffer,
+    Item { item: u64, is: u64, should: u64 },
+    // bytes that a call hands back or leaves
+    Bytes,
     // a printed figure that is outside its tolerance, or an exception that is not
     OffPrint { worked: u64, printed: u64 },
     Unreadable,
 }
 
+// What is printed after the line's number.
+impl fmt::Display for Difference {
+    fn fmt<W: fmt::Write>(&self, f: &mut fmt::Formatter<W>) -> fmt::Result {
+        match self {
+            Difference::Item { item, is, should } => {
+                write!(f, ", item {item}: is {is}, should be {should}")
+            }
+            Difference::Bytes => write!(f, ": other bytes"),
+            Difference::OffPrint { worked, printed } => {
+                write!(f, ": worked {worked}, printed {printed}")
+            }
+            Difference::Unreadable => write!(f, " can't be read"),
+        }
+    }
+}
+
 // Compares the numbers of an answer with those of a line.
-pub fn compare(are: &[u64], should: &[u64]) -> Comparison
+pub fn compare(are: &[u64], should: &[u64]) -> Result<(), Difference>
     ensures { result ≡ compared are.now should.now }
 {
     if are.len() != should.len() {
-        return Comparison::Unreadable;
+        return Err(Difference::Unreadable);
     }
-    let mut i = 0;
-    while i < are.len() {
-        if are[i] != should[i] {
-            return Comparison::Differs {
-                item: (i + 1) as u64,
-                is: are[i],
-                should: should[i],
-            };
+    for (place, is) in are.iter().enumerate() {
+        if *is != should[place] {
+            return Err(Difference::Item {
+                item: place as u64 + 1,
+                is: *is,
+                should: should[place],
+            });
         }
-        i += 1;
     }
-    Comparison::Same
+    Ok(())
 }
 
-// Compares bytes that a call hands back or leaves, where its numbers are as `numbers` says.
-pub fn compare_bytes(numbers: Comparison, are: &[u8], should: &[u8]) -> Comparison {
-    let Comparison::Same = numbers else {
-        return numbers;
-    };
-    if check::same(are, should) {
-        return Comparison::Same;
+// Compares bytes that a call hands back or leaves.
+pub fn compare_bytes(are: &[u8], should: &[u8]) -> Result<(), Difference> {
+    if are == should {
+        Ok(())
+    } else {
+        Err(Difference::Bytes)
     }
-    Comparison::BytesDiffer
 }

@@ -5,11 +5,13 @@
 
 ghost use Rattle.std.specs.Prelude.{◌≡◌, length};
 
-use compare::Comparison;
-use input::{STDERR_FILENO, STDIN_FILENO, was_read_whole};
+use compare::Difference;
+use input::read_whole;
 use jointfile::FileKind;
-use progress::{Progress, at_next_line, finish, start, with_comparison, with_heading};
-use reader::{Place, after_word, line_end};
+use progress::Progress;
+use reader::Items;
+use std::io;
+use std::io::Write;
 
 mod compare;
 mod files;
@@ -20,93 +22,64 @@ mod progress;
 mod reader;
 mod tables;
 
+const MOST_INPUT: usize = 2097152;
+
 // One byte more than there may be, so that an input that is too long is seen to be.
-const INPUT_SPACE: usize = 2097153;
+const INPUT_SPACE: usize = MOST_INPUT + 1;
 
-// Zeros for what is read.
-fn input_space() -> [u8; 2097153]
-    ensures { 2097153 ≡ length result }
+// Zeros for what is read, in a space of a fixed size, which can't run out of memory.
+fn input_space() -> [u8; INPUT_SPACE]
+    ensures { INPUT_SPACE ≡ length result }
 {
-    [0; 2097153]
+    [0; INPUT_SPACE]
 }
 
-// Old and own begin alike.
-fn run_old_or_own(line: &[u8]) -> Comparison {
-    if let Place::At(at) = after_word(line, b"own") {
-        return tables::run_own(line, Place::At(at));
+// Runs the call that a line names.
+fn run_line(line: &[u8]) -> Result<(), Difference> {
+    let count = line.iter().take_while(|byte| **byte != b' ').count();
+    let (word, after) = line.split_at(count);
+    let mut items = Items::new(after);
+    let items = &mut items;
+    match word {
+        b"allocate" => limits::run(items),
+        b"cell" => printed::run_cell(items, true),
+        b"exception" => printed::run_cell(items, false),
+        b"load" => tables::run_load(items),
+        b"own" => tables::run_own(items),
+        b"old" => files::run_read(items, FileKind::Old),
+        b"read" => files::run_read(items, FileKind::New),
+        b"shear" => printed::run_shear(items),
+        b"work" => joints::run(items),
+        b"write" => files::run_write(items),
+        _ => Err(Difference::Unreadable),
     }
-    files::run_read(line, FileKind::Old, after_word(line, b"old"))
 }
 
-// Runs the call that a line names; `first` is its first byte. Work and write begin alike.
-fn run_line(first: u8, line: &[u8]) -> Comparison {
-    match first {
-        b'a' => limits::run(line, after_word(line, b"allocate")),
-        b'c' => printed::run_cell(line, after_word(line, b"cell"), true),
-        b'e' => printed::run_cell(line, after_word(line, b"exception"), false),
-        b'l' => tables::run_load(line, after_word(line, b"load")),
-        b'o' => run_old_or_own(line),
-        b'r' => files::run_read(line, FileKind::New, after_word(line, b"read")),
-        b's' => printed::run_shear(line, after_word(line, b"shear")),
-        _ => {
-            if let Place::At(at) = after_word(line, b"write") {
-                return files::run_write(line, Place::At(at));
-            }
-            joints::run(bolttable::built_in(), line, after_word(line, b"work"))
+// The lines of the input, each by its first byte: nothing, a heading, a note, or else a vector.
+fn run_all<W: Write>(text: &[u8], out: &mut W) -> io::Result<()> {
+    let mut progress = Progress::new();
+    for line in text.split(|byte| *byte == b'\n') {
+        progress.next_line();
+        match line.first() {
+            None | Some(b'/') => {}
+            Some(b'#') => progress.heading(out, line)?,
+            Some(_) => progress.vector(out, run_line(line))?,
         }
     }
-}
-
-// A line by its first byte: nothing, a heading, a note, or else a vector.
-fn with_line(progress: Progress, line: &[u8]) -> Progress {
-    let here = at_next_line(progress);
-    if line.len() == 0 {
-        return here;
-    }
-    let first = line[0];
-    match first {
-        b'#' => with_heading(here, line),
-        b'/' => here,
-        _ => with_comparison(here, run_line(first, line)),
-    }
-}
-
-fn run_all(text: &[u8]) -> Progress {
-    let mut progress = start();
-    let mut from = 0;
-    while from < text.len() {
-        let end = line_end(text, from);
-        progress = with_line(progress, &text[from..end]);
-        if end == text.len() {
-            break;
-        }
-        from = end + 1;
-    }
-    progress
+    progress.finish(out)
 }
 
 fn main(rt: HostRuntime) {
     let mut text = input_space();
-    let size = io::read_full(STDIN_FILENO, &mut text);
-    let mut stdin = rt.stdin();
-    if !was_read_whole(&mut stdin, size, INPUT_SPACE) {
-        io::write_all(
-            STDERR_FILENO,
-            b"vectors: the input could not be read to its end; nothing is run\n",
-        );
+    let Ok(size) = read_whole(&mut rt.stdin(), &mut text) else {
+        let _told = eprintln!(rt; "vectors: the input could not be read to its end; nothing is run");
+        return;
+    };
+    if MOST_INPUT < size {
+        let _told = eprintln!(rt; "vectors: the input is longer than {MOST_INPUT} bytes; nothing is run");
         return;
     }
-    if INPUT_SPACE <= size {
-        io::write_all(
-            STDERR_FILENO,
-            b"vectors: the input is longer than 2097152 bytes; nothing is run\n",
-        );
-        return;
-    }
-    if !finish(run_all(&text[..size])) {
-        io::write_all(
-            STDERR_FILENO,
-            b"vectors: the output could not be written whole\n",
-        );
+    if run_all(&text[..size], &mut rt.stdout()).is_err() {
+        let _told = eprintln!(rt; "vectors: the output could not be written whole");
     }
 }

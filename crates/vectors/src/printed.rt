@@ -3,118 +3,109 @@
 // it is known not to; `shear LINE COUNT PRINTED TOLERANCE J = pass pass` is a capacity that shows in the verdict on the bolts alone.
 // LINE is where the figure stands in P207's text, COUNT how many of what is printed the joint has, and PLACE which of the answer's numbers
 // it is.
-use crate::compare::{Comparison, compare};
-use crate::joints::{OUTCOME_NUMBERS, SHORT_JOINT, SHORT_OUTCOME, worked_numbers};
-use crate::reader::{Place, fill_sides, put_words};
+use crate::compare::{Difference, compare};
+use crate::joints::{SHORT_JOINT, SHORT_OUTCOME, joint_words, worked_numbers};
+use crate::reader::{Items, put_words};
 use bolttable::built_in;
 use words::joints::JOINT_WORDS;
 
-// The numbers that a cell and a shear capacity are given by: their own, and the joint's words in the short form.
-const CELL_NUMBERS: usize = SHORT_JOINT + 5;
+// The numbers that stand before the joint of a cell and of a shear capacity.
+const CELL_HEAD: usize = 5;
 
-const SHEAR_NUMBERS: usize = SHORT_JOINT + 4;
+const SHEAR_HEAD: usize = 4;
 
 // Where V, field 28, stands among a joint's words, and the verdict on the bolts among the numbers of what it comes to.
 const SHEAR: usize = 27;
 
 const BOLTS: usize = 16;
 
-// So many of a figure.
-fn times(count: u32, figure: u32) -> u64 {
-    (count as u64) * (figure as u64)
+// So many of a printed figure, each with its tolerance.
+#[derive(Clone, Copy)]
+struct Figure {
+    count: u32,
+    printed: u32,
+    tolerance: u32,
 }
 
-fn is_near(worked: u64, printed: u64, tolerance: u64) -> bool {
-    if worked < printed {
-        return printed - worked <= tolerance;
+impl Figure {
+    // Of the numbers at the head of a line, the first of which is LINE.
+    fn of(head: &[u32; CELL_HEAD]) -> Figure {
+        Figure {
+            count: head[1],
+            printed: head[2],
+            tolerance: head[3],
+        }
     }
-    worked - printed <= tolerance
+
+    fn total(self) -> u64 {
+        u64::from(self.count) * u64::from(self.printed)
+    }
+
+    fn is_near(self, worked: u64) -> bool {
+        worked.abs_diff(self.total()) <= u64::from(self.count) * u64::from(self.tolerance)
+    }
+
+    // The least and the greatest figure that it stands for, in 32 bits.
+    fn ends(self) -> Option<(u32, u32)> {
+        let least = self.printed.checked_sub(self.tolerance)?;
+        let most = self.printed.checked_add(self.tolerance)?;
+        Some((self.count.checked_mul(least)?, self.count.checked_mul(most)?))
+    }
 }
 
-// Whether the number at a place, counted from 1, is near the printed figure, as it must be or must not be.
-fn compare_print(are: [u64; OUTCOME_NUMBERS], cell: [u32; 5], near: bool) -> Comparison {
-    let place = cell[4] as usize;
-    if place == 0 {
-        return Comparison::Unreadable;
-    }
-    if OUTCOME_NUMBERS < place {
-        return Comparison::Unreadable;
-    }
-    let worked = are[place - 1];
-    let printed = times(cell[1], cell[2]);
-    if is_near(worked, printed, times(cell[1], cell[3])) == near {
-        return Comparison::Same;
-    }
-    Comparison::OffPrint { worked, printed }
-}
-
-// A cell, or with `near` false an exception.
-pub fn run_cell(line: &[u8], place: Place, near: bool) -> Comparison {
-    let mut given = [0u64; CELL_NUMBERS];
-    let mut should = [0u64; SHORT_OUTCOME];
-    if !fill_sides(line, place, &mut given, &mut should) {
-        return Comparison::Unreadable;
-    }
-    let mut cell = [0u32; 5];
-    let mut joint = [0u32; JOINT_WORDS];
-    if !(put_words(&given, &mut cell) & put_words(&given[5..], &mut joint[..SHORT_JOINT])) {
-        return Comparison::Unreadable;
-    }
-    let are = worked_numbers(built_in(), joint);
-    let found = compare(&are[..SHORT_OUTCOME], &should);
-    let Comparison::Same = found else {
-        return found;
+// The numbers of a line's left side, cut into those at its head, of which a shear capacity has one less, and those of a joint in the short
+// form.
+fn head_and_joint(
+    given: &[u64],
+    size: usize,
+) -> Result<([u32; CELL_HEAD], [u32; JOINT_WORDS]), Difference> {
+    let Some((head, joint)) = given.split_at_checked(size) else {
+        return Err(Difference::Unreadable);
     };
-    compare_print(are, cell, near)
+    if joint.len() != SHORT_JOINT {
+        return Err(Difference::Unreadable);
+    }
+    let mut words = [0u32; CELL_HEAD];
+    put_words(head, &mut words)?;
+    Ok((words, joint_words(joint)?))
+}
+
+// A cell, or with `near` false an exception: the number at a place, counted from 1, is near the printed figure, as it must be or must not be.
+pub fn run_cell(items: &mut Items, near: bool) -> Result<(), Difference> {
+    let sides = items.sides()?;
+    let (head, joint) = head_and_joint(&sides.given, CELL_HEAD)?;
+    let numbers = worked_numbers(built_in(), joint);
+    compare(&numbers[..SHORT_OUTCOME], &sides.answer)?;
+    let place = (head[4] as usize).checked_sub(1);
+    let Some(worked) = place.and_then(|place| numbers.get(place).copied()) else {
+        return Err(Difference::Unreadable);
+    };
+    let figure = Figure::of(&head);
+    if figure.is_near(worked) == near {
+        return Ok(());
+    }
+    Err(Difference::OffPrint {
+        worked,
+        printed: figure.total(),
+    })
 }
 
 // The verdict on the bolts under a shear force.
 fn bolts_under(joint: [u32; JOINT_WORDS], shear: u32) -> u64 {
     let mut loaded = joint;
     loaded[SHEAR] = shear;
-    let numbers = worked_numbers(built_in(), loaded);
-    numbers[BOLTS]
+    worked_numbers(built_in(), loaded)[BOLTS]
 }
 
 // The bolts' verdicts under the least and the greatest shear force that so many of a printed capacity stand for.
-fn compare_shear(
-    joint: [u32; JOINT_WORDS],
-    count: u32,
-    printed: u32,
-    tolerance: u32,
-    should: &[u64],
-) -> Comparison {
-    if printed < tolerance {
-        return Comparison::Unreadable;
-    }
-    if 4294967295 - printed < tolerance {
-        return Comparison::Unreadable;
-    }
-    let least = times(count, printed - tolerance);
-    let most = times(count, printed + tolerance);
-    if most < least {
-        return Comparison::Unreadable;
-    }
-    if 4294967295 < most {
-        return Comparison::Unreadable;
-    }
-    let are = [
-        bolts_under(joint, least as u32),
-        bolts_under(joint, most as u32),
-    ];
-    compare(&are, should)
-}
-
-pub fn run_shear(line: &[u8], place: Place) -> Comparison {
-    let mut given = [0u64; SHEAR_NUMBERS];
-    let mut should = [0u64; 2];
-    if !fill_sides(line, place, &mut given, &mut should) {
-        return Comparison::Unreadable;
-    }
-    let mut cell = [0u32; 4];
-    let mut joint = [0u32; JOINT_WORDS];
-    if !(put_words(&given, &mut cell) & put_words(&given[4..], &mut joint[..SHORT_JOINT])) {
-        return Comparison::Unreadable;
-    }
-    compare_shear(joint, cell[1], cell[2], cell[3], &should)
+pub fn run_shear(items: &mut Items) -> Result<(), Difference> {
+    let sides = items.sides()?;
+    let (head, joint) = head_and_joint(&sides.given, SHEAR_HEAD)?;
+    let Some((least, most)) = Figure::of(&head).ends() else {
+        return Err(Difference::Unreadable);
+    };
+    compare(
+        &[bolts_under(joint, least), bolts_under(joint, most)],
+        &sides.answer,
+    )
 }
