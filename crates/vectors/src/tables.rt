@@ -17,7 +17,7 @@ fn loaded_numbers(table: BoltTable) -> [u64; LOAD_NUMBERS] {
         numbers[0] = u64::from(refusal.number());
     }
     let mut words = [0u32; TABLE_WORDS];
-    put_table(in_force, &mut words);
+    put_table(&in_force, &mut words);
     put_numbers(&words, &mut numbers[1..]);
     numbers
 }
