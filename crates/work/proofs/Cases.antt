@@ -1,10 +1,9 @@
 -- Work's definition case by case: a face that is refused and one that isn't, and a joint that has one face alone. Assumes nothing.
-use Rattle.std.specs.Prelude.{Option}
-use mathlib.Core.Path.{◌≡◌, sym, ap, subst, ◌∙◌}
+use Rattle.std.specs.Prelude.{Option, Ok, Err}
+use mathlib.Core.Path.{◌≡◌, refl, sym, ap, subst, ◌∙◌}
 use mathlib.Core.Bool.{Bool, true, false}
 use Prim.Native.Nat.{ℕ}
 use native.Mathlib.Omega.{arith}
-use borrow.Author.Tests.{eq-eqb, ne_eqb}
 use Rattle.joint.specs.Faces.{two_faced, with_rows, first_face}
 use Rattle.joint.specs.declared.Bolts.{Bolts}
 use Rattle.joint.specs.declared.Column.{Column}
@@ -13,49 +12,55 @@ use Rattle.joint.specs.declared.Joint.{Joint}
 use Rattle.joint.proofs.Faces.{rows_as_stored}
 use Rattle.connection.specs.Connection.{worked_connection}
 use Rattle.connection.specs.Demand.{Demand3For}
-use Rattle.outcome.specs.declared.FaceOutcome.{FaceOutcome}
+use Rattle.outcome.specs.Outcome.{FaceOutcome, Outcome, NotAsked, face_number, face_meaning, outcome_meaning}
+use Rattle.outcome.specs.declared.FaceRefusal.{FaceRefusal}
+use Rattle.outcome.specs.declared.FaceRefusal.TheVariants.{OutOfRange, LeversDontFall, RowsTooClose, RowOutOfPlace, TooTight, TooThick, NoCap}
 use Rattle.outcome.specs.declared.FaceResult.{FaceResult}
-use Rattle.outcome.specs.declared.Outcome.{Outcome}
-use Rattle.outcome.specs.declared.PanelVerdict.TheVariants.{NotAsked}
+use Rattle.outcome.specs.declared.RefusedFace.{RefusedFace}
+use Rattle.outcome.specs.declared.RefusedFace.TheVariants.{First, Second}
 use Rattle.work.specs.Demand.{FacesDemand3, Demand3With}
-use Rattle.work.specs.Work.{refused_outcome, of_one_face, if_taken, both_taken, worked_second, worked_faces, worked_with}
+use Rattle.work.specs.Work.{of_one_face, if_taken, both_taken, worked_second, worked_faces, worked_with}
 
 -- ---- a face that may be refused
 
-module _ (face : ℕ) (next : FaceResult → Outcome) {answer outcome : FaceOutcome} (e : answer ≡ outcome) where
-  if_refused : (answer.number ≡ 0 → ⊥)
-      → refused_outcome answer.number answer.field face ≡ if_taken face outcome next
-  if_refused some = rw (sym e, ne_eqb answer.number 0 some)
+module _ (face : RefusedFace) (next : FaceResult → Outcome) {outcome : FaceOutcome} where
+  if_refused : (refusal : FaceRefusal) → face_meaning (Err refusal) ≡ outcome
+      → outcome_meaning (Err (record { refusal = refusal; face = face })) ≡ if_taken (face_number face) outcome next
+  if_refused refusal e = by_refusal refusal ∙ ap (λ (o : FaceOutcome). if_taken (face_number face) o next) e
+    where
+      by_refusal : (refusal : FaceRefusal) → outcome_meaning (Err (record { refusal = refusal; face = face }))
+          ≡ if_taken (face_number face) (face_meaning (Err refusal)) next
+      by_refusal (OutOfRange field) = refl
+      by_refusal LeversDontFall = refl
+      by_refusal RowsTooClose = refl
+      by_refusal RowOutOfPlace = refl
+      by_refusal TooTight = refl
+      by_refusal TooThick = refl
+      by_refusal NoCap = refl
 
-  if_taken_lem : answer.number ≡ 0 → next answer.result ≡ if_taken face outcome next
-  if_taken_lem none = rw (sym e, eq-eqb answer.number 0 none)
-
--- a refusal has its number
-pub refusal_is : (number field face : ℕ) (answer : Outcome) → answer ≡ refused_outcome number field face → answer.refusal.number ≡ 0
-    → number ≡ 0
-refusal_is number field face answer e none = sym (ap (λ (o : Outcome). o.refusal.number) e) ∙ none
+  if_worked : (result : FaceResult) → face_meaning (Ok result) ≡ outcome → next result ≡ if_taken (face_number face) outcome next
+  if_worked result e = ap (λ (o : FaceOutcome). if_taken (face_number face) o next) e
 
 -- ---- two faces, one after the other
 
-module _ (column : Column) (bolts : Bolts) (area : Option ℕ) (first second : Face) {one : FaceOutcome}
-    (e : one ≡ worked_connection false column bolts area first) where
-  pub first_refused : (one.number ≡ 0 → ⊥)
-      → refused_outcome one.number one.field 1 ≡ worked_faces column bolts area first second
+module _ (column : Column) (bolts : Bolts) (area : Option ℕ) (first second : Face) where
+  pub first_refused : (refusal : FaceRefusal) → face_meaning (Err refusal) ≡ worked_connection false column bolts area first
+      → outcome_meaning (Err (record { refusal = refusal; face = First })) ≡ worked_faces column bolts area first second
   unfolding worked_faces
-  first_refused some = if_refused 1 (worked_second column bolts area first second) e some
+  first_refused refusal e = if_refused First (worked_second column bolts area first second) refusal e
 
-  module _ (none : one.number ≡ 0) {two : FaceOutcome} (e' : two ≡ worked_connection false column bolts area second) where
-    pub second_refused : (two.number ≡ 0 → ⊥)
-        → refused_outcome two.number two.field 2 ≡ worked_faces column bolts area first second
+  module _ (one : FaceResult) (e : face_meaning (Ok one) ≡ worked_connection false column bolts area first) where
+    pub second_refused : (refusal : FaceRefusal) → face_meaning (Err refusal) ≡ worked_connection false column bolts area second
+        → outcome_meaning (Err (record { refusal = refusal; face = Second })) ≡ worked_faces column bolts area first second
     unfolding worked_faces
-    second_refused some =
-        if_refused 2 (both_taken column first second one.result) e' some ∙ if_taken_lem 1 (worked_second column bolts area first second) e none
+    second_refused refusal e' =
+        if_refused Second (both_taken column first second one) refusal e' ∙ if_worked First (worked_second column bolts area first second) one e
 
-    pub both_taken_lem : two.number ≡ 0
-        → both_taken column first second one.result two.result ≡ worked_faces column bolts area first second
+    pub both_worked : (two : FaceResult) → face_meaning (Ok two) ≡ worked_connection false column bolts area second
+        → both_taken column first second one two ≡ worked_faces column bolts area first second
     unfolding worked_faces
-    both_taken_lem none' =
-        if_taken_lem 2 (both_taken column first second one.result) e' none' ∙ if_taken_lem 1 (worked_second column bolts area first second) e none
+    both_worked two e' =
+        if_worked Second (both_taken column first second one) two e' ∙ if_worked First (worked_second column bolts area first second) one e
 
 -- ---- one face alone
 

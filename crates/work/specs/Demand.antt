@@ -8,7 +8,7 @@ use Rattle.joint.specs.declared.Column.{Column}
 use Rattle.joint.specs.declared.Face.{Face}
 use Rattle.joint.specs.declared.Joint.{Joint}
 use Rattle.connection.specs.Demand.{Demand3For}
-use Rattle.outcome.specs.declared.Outcome.{Outcome}
+use Rattle.outcome.specs.Outcome.{Outcome}
 
 -- of two faces: panel shear is in neither's cap
 pub record FacesDemand3 (column : Column) (bolts : Bolts) (area : Option ℕ) (first second : Face) (outcome : Outcome) : Type 0 where

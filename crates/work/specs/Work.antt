@@ -11,12 +11,9 @@ use Rattle.joint.specs.declared.Loads.{Loads}
 use Rattle.strength.specs.Steel.{steel_strength}
 use Rattle.compression.specs.Compression.{panel_shear}
 use Rattle.panel.specs.Panel.{governing_total, panel_passes}
-use Rattle.connection.specs.Connection.{no_result, worked_connection}
-use Rattle.outcome.specs.declared.FaceOutcome.{FaceOutcome}
+use Rattle.connection.specs.Connection.{worked_connection}
+use Rattle.outcome.specs.Outcome.{FaceOutcome, Outcome, PanelVerdict, NotAsked, Passes, Fails, no_result}
 use Rattle.outcome.specs.declared.FaceResult.{FaceResult}
-use Rattle.outcome.specs.declared.Outcome.{Outcome}
-use Rattle.outcome.specs.declared.PanelVerdict.{PanelVerdict}
-use Rattle.outcome.specs.declared.PanelVerdict.TheVariants.{NotAsked, Passes, Fails}
 
 -- rule 8.6: the panel's verdict, by the sums of forces and the loads of the two faces
 unfoldable pub panel_verdict : Column → (first_sum : ℕ) (first : Loads) (second_sum : ℕ) (second : Loads) → PanelVerdict

@@ -1,39 +1,54 @@
 -- `work_faces` meets its contract: each return is a case of the definition, and each face that is taken has demand 3 by its own call.
 -- Assumes nothing.
-use mathlib.Core.Path.{sym, ◌∙◌}
+use Rattle.std.proofs.Common.{rules, false, Ok, Err}
+use mathlib.Core.Path.{◌≡◌, refl, sym, ap, ◌∙◌}
+use Rattle.connection.specs.Connection.{worked_connection}
 use Rattle.connection.proofs.Sums.{taken}
-use Rattle.work.proofs.Cases.{refusal_is, first_refused, second_refused, both_taken_lem}
+use Rattle.outcome.specs.Outcome.{face_meaning, outcome_meaning}
+use Rattle.outcome.specs.declared.RefusedFace.TheVariants.{First, Second}
+use Rattle.work.proofs.Cases.{first_refused, second_refused, both_worked}
 use Rattle.work.proofs.work_faces.Goals as goal
+use Rattle.work.proofs.work_faces.Goals.{In_ok-one, In_ok-two}
 
-pub work_connection-one-requires : goal.work_connection-one-requires
-work_connection-one-requires c = c.requires
+-- the first face is worked, and the second
+one_worked : (c : In_ok-one)
+    → let a = c.args in face_meaning (Ok c.in_ok-one.one) ≡ worked_connection false a.column a.bolts a.area a.first
+one_worked c =
+    let answer : c.work_connection.result ≡ Ok c.in_ok-one.one = search rules in
+    ap face_meaning (sym answer) ∙ c.work_connection.ensures.equals
 
-pub returns-then-one-ne0 : goal.returns-then-one-ne0
-returns-then-one-ne0 c =
-    let a = c.args in record {
-      equals = c.refused.ensures
-          ∙ first_refused a.column a.bolts a.area a.first a.second c.work_connection-one.ensures.equals
-          c.if-one-ne0.true;
-      demand = (λ none. absurd (c.if-one-ne0.true (refusal_is _ _ 1 _ c.refused.ensures none)));
-    }
+two_worked : (c : In_ok-two)
+    → let a = c.args in face_meaning (Ok c.in_ok-two.two) ≡ worked_connection false a.column a.bolts a.area a.second
+two_worked c =
+    let answer : c.work_connection-2.result ≡ Ok c.in_ok-two.two = search rules in
+    ap face_meaning (sym answer) ∙ c.work_connection-2.ensures.equals
 
-pub work_connection-two-requires : goal.work_connection-two-requires
-work_connection-two-requires c = c.requires
-
-pub returns-then-two-ne0 : goal.returns-then-two-ne0
-returns-then-two-ne0 c =
-    let a = c.args in record {
-      equals = c.refused-then-two-ne0.ensures
-          ∙ second_refused a.column a.bolts a.area a.first a.second c.work_connection-one.ensures.equals c.if-one-ne0.false
-          c.work_connection-two.ensures.equals c.if-two-ne0.true;
-      demand = (λ none. absurd (c.if-two-ne0.true (refusal_is _ _ 2 _ c.refused-then-two-ne0.ensures none)));
-    }
-
-pub panel_verdict-panel-requires : goal.panel_verdict-panel-requires
-panel_verdict-panel-requires c =
+pub returns-in_err-one-clause-equals : goal.returns-in_err-one-clause-equals
+returns-in_err-one-clause-equals c =
     let a = c.args in
-    let first = taken _ a.column a.bolts a.area a.first _ (sym c.work_connection-one.ensures.equals) c.if-one-ne0.false in
-    let second = taken _ a.column a.bolts a.area a.second _ (sym c.work_connection-two.ensures.equals) c.if-two-ne0.false in (
+    let refusal = c.in_err-one.field-0.0.refusal in
+    let told : c.from_residual.result ≡ Err (record { refusal = refusal; face = First }) = search rules in
+    let answer : c.work_connection.result ≡ Err refusal = search rules in
+    ap outcome_meaning told
+    ∙ first_refused a.column a.bolts a.area a.first a.second refusal (ap face_meaning (sym answer) ∙ c.work_connection.ensures.equals)
+
+pub returns-in_err-two-clause-equals : goal.returns-in_err-two-clause-equals
+returns-in_err-two-clause-equals c =
+    let here = (goal.at.returns-in_err-two-clause-equals c).In_ok-one in
+    let a = c.args in
+    let refusal = c.in_err-two.field-0.0.refusal in
+    let told : c.from_residual-in_err-two.result ≡ Err (record { refusal = refusal; face = Second }) = search rules in
+    let answer : c.work_connection-2.result ≡ Err refusal = search rules in
+    ap outcome_meaning told
+    ∙ second_refused a.column a.bolts a.area a.first a.second c.in_ok-one.one (one_worked here) refusal
+    (ap face_meaning (sym answer) ∙ c.work_connection-2.ensures.equals)
+
+pub panel_passes-panel_passes-requires : goal.panel_passes-panel_passes-requires
+panel_passes-panel_passes-requires c =
+    let here = goal.at.panel_passes-panel_passes-requires c in
+    let a = c.args in
+    let first = taken false a.column a.bolts a.area a.first (face_meaning (Ok c.in_ok-one.one)) (sym (one_worked here.In_ok-one)) refl in
+    let second = taken false a.column a.bolts a.area a.second (face_meaning (Ok c.in_ok-two.two)) (sym (two_worked here.In_ok-two)) refl in (
       first.0.column,
       record {
         first_small = first.1;
@@ -45,17 +60,18 @@ panel_verdict-panel-requires c =
 
 pub returns : goal.returns
 returns c =
-    let a = c.args in record {
+    let here = goal.at.returns c in
+    let a = c.args in
+    let one : c.work_connection.result ≡ Ok c.in_ok-one.one = search rules in
+    let two : c.work_connection-2.result ≡ Ok c.in_ok-two.two = search rules in
+    record {
       equals = (λ i. record {
         refusal = record { number = 0; field = 0; face = 0 };
-        result = c.work_connection-one.result.result;
-        other = c.work_connection-two.result.result;
-        panel = c.panel_verdict-panel.ensures i;
+        result = c.in_ok-one.one;
+        other = c.in_ok-two.two;
+        panel = c.panel_passes-panel_passes.ensures i;
       })
-          ∙ both_taken_lem a.column a.bolts a.area a.first a.second c.work_connection-one.ensures.equals c.if-one-ne0.false
-          c.work_connection-two.ensures.equals c.if-two-ne0.false;
-      demand = (λ none. record {
-        of_first = c.work_connection-one.ensures.demand c.if-one-ne0.false;
-        of_second = c.work_connection-two.ensures.demand c.if-two-ne0.false;
-      });
+          ∙ both_worked a.column a.bolts a.area a.first a.second c.in_ok-one.one (one_worked here.In_ok-one) c.in_ok-two.two
+          (two_worked here.In_ok-two);
+      demand = record { of_first = rw one at c.work_connection.ensures.demand; of_second = rw two at c.work_connection-2.ensures.demand };
     }
