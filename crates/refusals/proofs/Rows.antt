@@ -3,6 +3,7 @@
 use mathlib.Core.Path.{◌≡◌, refl, sym, ap, ◌∙◌}
 use mathlib.Core.Bool.{Bool, true, false, ◌&&◌, and_assoc, and-true}
 use Prim.Native.Nat.{ℕ, suc, min, ◌+◌, ◌-◌, ◌≤◌, ◌<◌}
+use native.Mathlib.Nat.{add-suc, suc-add, zero-add}
 use native.Mathlib.Numerals.{add-one}
 use native.Mathlib.Omega.{arith}
 use mathlib.Core.List.{List, [], ◌∷◌}
@@ -15,24 +16,14 @@ use Rattle.arithmetic.proofs.Table.{at}
 use Rattle.joint.specs.Ranges.{most_lever}
 use Rattle.refusals.specs.Refusals.{below_above_by, fall_by}
 
-module _ (test : ℕ → ℕ → Bool) (n : ℕ) (levers : List ℕ) (few : n ≤ length levers) where
-  next : (row : ℕ) → row < n
-      → every test row (drop row (take n levers)) ≡ (test row (get_or levers row 0) && every test (row + 1) (drop (row + 1) (take n levers)))
-  next row h =
-      let inside : row < length (take n levers) = rw (length-take-le n levers few) h in
-      let cut = drop-cons (take n levers) row 0 inside in
-      ap (every test row) cut ∙ rw (get_or-take n levers row 0 h, add-one row)
+-- testing one after the other: the next, and none
+module _ (test : ℕ → ℕ → Bool) (levers : List ℕ) (row : ℕ) where
+  pub next : row < length levers
+      → every test row (drop row levers) ≡ (test row (get_or levers row 0) && every test (row + 1) (drop (row + 1) levers))
+  next h = ap (every test row) (drop-cons levers row 0 h) ∙ rw (add-one row)
 
-  -- a row that passes leaves the rest to decide
-  pub row_passes : (row : ℕ) → row < n → test row (get_or levers row 0) ≡ true
-      → every test row (drop row (take n levers)) ≡ every test (row + 1) (drop (row + 1) (take n levers))
-  row_passes row h t = next row h ∙ ap (λ b. b && every test (row + 1) (drop (row + 1) (take n levers))) t
-
-  pub row_fails : (row : ℕ) → row < n → test row (get_or levers row 0) ≡ false → every test row (drop row (take n levers)) ≡ false
-  row_fails row h t = next row h ∙ ap (λ b. b && every test (row + 1) (drop (row + 1) (take n levers))) t
-
-  pub rows_end : (row : ℕ) → n ≤ row → every test row (drop row (take n levers)) ≡ true
-  rows_end row h = ap (every test row) (drop_of_length-le (take n levers) {i = row} (omega (arith, length-take-le n levers few)))
+  pub none_left : length levers ≤ row → every test row (drop row levers) ≡ true
+  none_left h = ap (every test row) (drop_of_length-le levers {i = row} h)
 
 -- a test of the lesser of two numbers is a test of both
 of_lesser : (distance a b : ℕ) → leb distance (min a b) ≡ (leb distance a && leb distance b)
@@ -51,46 +42,52 @@ of_pitch distance above lever h = sym (by_test (leb (lever + distance) above) re
     by_test true e = le-leb distance (above - lever) (omega (arith, leb-true (lever + distance) above e))
     by_test false e = lt-leb distance (above - lever) (omega (arith, leb-false (lever + distance) above e))
 
--- what the least pitch so far and the rows left tell of a distance
-abbrev pub tells : (rows : ℕ) (levers : List ℕ) (pitch row distance : ℕ) → Bool
-tells rows levers pitch row distance = leb distance pitch && every (below_above_by distance levers) row (drop row (take rows levers))
+-- from each lever of a list to the next they fall by a distance
+abbrev pub falls_on : (distance : ℕ) → List ℕ → Bool
+falls_on distance [] = true
+falls_on distance (above ∷ []) = true
+falls_on distance (above ∷ lever ∷ levers) = leb (lever + distance) above && falls_on distance (lever ∷ levers)
 
-module _ (rows : ℕ) (levers : List ℕ) (distance : ℕ) where
-  -- the first row has none above it; `most_lever` stands for no pitch, and no distance asked about is greater
-  pub before_pitches : distance ≤ most_lever → fall_by distance rows levers ≡ tells rows levers most_lever 1 distance
+-- so do those from a row on
+from_row : (distance row : ℕ) (levers : List ℕ) (above : ℕ) (rest : List ℕ)
+    → ((k : ℕ) → k < length (above ∷ rest) → get_or levers (row + k) 0 ≡ get_or (above ∷ rest) k 0)
+    → every (below_above_by distance levers) (suc row) rest ≡ falls_on distance (above ∷ rest)
+from_row distance row levers above [] same = refl
+from_row distance row levers above (lever ∷ rest) same =
+    let here : suc row - 1 ≡ row + 0 = omega arith in
+    let others = from_row distance (suc row) levers lever rest (λ k h. ap (λ i. get_or levers i 0) (suc-add row k ∙ sym (add-suc row k)) ∙ same (suc k) (omega (arith, h))) in
+    rw (ne_eqb (suc row) 0 (omega arith), here, same 0 (omega arith)) (ap (λ b. leb (lever + distance) above && b) others)
+
+module _ (distance : ℕ) where
+  -- `most_lever` stands for no pitch, and no distance asked about is greater
+  pub all_pairs : (rows : ℕ) (levers : List ℕ) → rows ≤ length levers → distance ≤ most_lever
+      → fall_by distance rows levers ≡ (leb distance most_lever && falls_on distance (take rows levers))
   unfolding fall_by
-  before_pitches h =
-      let others = every (below_above_by distance levers) 1 (drop 1 (take rows levers)) in
-      first_passes (take rows levers) ∙ ap (λ b. b && others) (sym (le-leb distance most_lever h))
+  all_pairs rows levers few h =
+      go (take rows levers) (λ k used. sym (get_or-take rows levers k 0 (omega (arith, used, length-take-le rows levers few))))
+      ∙ ap (λ b. b && falls_on distance (take rows levers)) (sym (le-leb distance most_lever h))
     where
-      first_passes : (xs : List ℕ) → every (below_above_by distance levers) 0 xs ≡ every (below_above_by distance levers) 1 (drop 1 xs)
-      first_passes [] = refl
-      first_passes (x ∷ xs) = refl
+      go : (xs : List ℕ) → ((k : ℕ) → k < length xs → get_or levers k 0 ≡ get_or xs k 0)
+          → every (below_above_by distance levers) 0 xs ≡ falls_on distance xs
+      go [] same = refl
+      go (x ∷ xs) same = from_row distance 0 levers x xs (λ k used. ap (λ i. get_or levers i 0) (zero-add k) ∙ same k used)
 
-  -- one pitch more
-  pub next_pitch : (few : rows ≤ length levers) (pitch row : ℕ) → 0 < row → row < rows → 0 < distance
-      → tells rows levers pitch row distance
-      ≡ tells rows levers (min pitch (get_or levers (row - 1) 0 - get_or levers row 0)) (row + 1) distance
-  next_pitch few pitch row inside h positive =
-      let above = get_or levers (row - 1) 0 in
-      let lever = get_or levers row 0 in
-      let rest = every (below_above_by distance levers) (row + 1) (drop (row + 1) (take rows levers)) in
-      let own : below_above_by distance levers row lever ≡ leb distance (above - lever)
-      = rw (ne_eqb row 0 (omega arith)) (of_pitch distance above lever positive) in
-      ap (λ b. leb distance pitch && b) (next (below_above_by distance levers) rows levers few row h ∙ ap (λ b. b && rest) own)
-      ∙ sym (and_assoc (leb distance pitch) (leb distance (above - lever)) rest)
-      ∙ ap (λ b. b && rest) (sym (of_lesser distance pitch (above - lever)))
+  -- one pair more
+  pub next_pair : 0 < distance → (pitch : ℕ) (rest : List ℕ) → 2 ≤ length rest
+      → (leb distance pitch && falls_on distance rest)
+      ≡ (leb distance (min pitch (get_or (take 2 rest) 0 0 - get_or (take 2 rest) 1 0)) && falls_on distance (drop 1 rest))
+  next_pair positive pitch [] two = absurd (omega arith)
+  next_pair positive pitch (above ∷ []) two = absurd (omega arith)
+  next_pair positive pitch (above ∷ lever ∷ rest) two =
+      let others = falls_on distance (lever ∷ rest) in
+      ap (λ b. leb distance pitch && (b && others)) (of_pitch distance above lever positive)
+      ∙ sym (and_assoc (leb distance pitch) (leb distance (above - lever)) others)
+      ∙ ap (λ b. b && others) (sym (of_lesser distance pitch (above - lever)))
 
-  -- with a pitch of 0 the rows left don't count
-  pub no_pitch : (row : ℕ) → 0 < distance → tells rows levers 0 row distance ≡ leb distance 0
-  no_pitch row positive =
-      let none = lt-leb distance 0 positive in
-      ap (λ b. b && every (below_above_by distance levers) row (drop row (take rows levers))) none ∙ sym none
-
-  -- past the last row
-  pub all_pitches : (few : rows ≤ length levers) (pitch row : ℕ) → rows ≤ row → tells rows levers pitch row distance ≡ leb distance pitch
-  all_pitches few pitch row h =
-      ap (λ b. leb distance pitch && b) (rows_end (below_above_by distance levers) rows levers few row h) ∙ and-true (leb distance pitch)
+  pub no_pair : (pitch : ℕ) (rest : List ℕ) → length rest < 2 → (leb distance pitch && falls_on distance rest) ≡ leb distance pitch
+  no_pair pitch [] few = and-true (leb distance pitch)
+  no_pair pitch (lever ∷ []) few = and-true (leb distance pitch)
+  no_pair pitch (above ∷ lever ∷ rest) few = absurd (omega arith)
 
 -- levers that pass fall from row to row
 pub falls : (levers : List ℕ) (rows : ℕ) → rows ≤ length levers → fall_by 1 rows levers ≡ true

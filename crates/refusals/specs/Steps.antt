@@ -1,7 +1,7 @@
 -- What the tests rely on, from fields in range: nothing here states a rule. Assumes nothing.
-use Rattle.std.specs.Prelude.{ℕ, ◌≤◌, get_or}
+use Rattle.std.specs.Prelude.{◌≤◌}
 use Rattle.arithmetic.specs.Range.{Within}
-use Rattle.joint.specs.Ranges.{row_counts, depths, flanges, most_lever}
+use Rattle.joint.specs.Ranges.{row_counts, depths, flanges}
 use Rattle.joint.specs.declared.Face.{Face}
 
 -- What finding the rows in place relies on.
@@ -9,4 +9,3 @@ pub record PlacesInRange (face : Face) : Type 0 where
   pub rows : face.rows ≤ row_counts.high
   pub depth : Within depths face.beam.depth
   pub flange : Within flanges face.beam.flange
-  pub lever : (row : ℕ) → get_or face.levers row 0 ≤ most_lever
