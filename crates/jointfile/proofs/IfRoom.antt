@@ -2,7 +2,7 @@
 use Prim.Native.Nat.{ℕ, ◌+◌, ◌-◌, ◌*◌, ◌≤◌, ◌<◌}
 use mathlib.Core.Path.{◌≡◌, sym, ap, ◌∙◌}
 use mathlib.Core.Bool.{true, false}
-use mathlib.Core.List.{List, [], ◌∷◌, ◌++◌}
+use mathlib.Core.List.{List, [], ◌∷◌}
 use native.Mathlib.Omega.{arith}
 use borrow.Author.Tests.{leb-true, le-leb}
 use lib.Dec.{leb}
@@ -20,10 +20,9 @@ use Rattle.numbers.specs.Number.{stored}
 use Rattle.numbers.specs.Run.{stored_all}
 use Rattle.numbers.proofs.Codec.{groups_last}
 use Rattle.numbers.proofs.Sizes.{stored_all_short}
-use Rattle.fields.specs.Fields.{field_count, fields_of, own_of, own_count}
+use Rattle.fields.specs.Fields.{fields_of, own_of, own_count}
 use Rattle.jointfile.specs.Write.{first_fields, second_fields, part_of, file, wrote, turned_down, rows_check}
-use Rattle.jointfile.specs.Answers.{part_stored, numbers_stored, Few, FileParts, writing_if_room}
-use Rattle.jointfile.specs.declared.PartNumbers.{PartNumbers}
+use Rattle.jointfile.specs.Answers.{part_stored, numbers_stored, FileParts, writing_if_room}
 use Rattle.jointfile.specs.declared.FileKind.TheVariants.{New}
 use Rattle.jointfile.proofs.Faces.{first_rows_few}
 
@@ -35,31 +34,34 @@ first_short (x ∷ xs) low =
     let one : length (stored x) ≡ 1 = rw (groups_last 4 x low) in
     rw length-append (omega (arith, stored_all_short xs))
 
-pub part_size : (part : PartNumbers) → length (stored_all part.fields.now) + length (stored_all part.levers.now) ≡ length (part_stored part)
-part_size part = omega (arith, length-append (stored_all part.fields.now) (stored_all part.levers.now))
+-- so many numbers are no longer than five bytes each
+pub size_most : (xs : List ℕ) {size most : ℕ} → size ≡ length (stored_all xs) → length xs ≤ most → size ≤ 5 * most
+size_most xs size few = omega (arith, size, stored_all_short xs)
 
-pub part_size_most : (part : PartNumbers) → Few part → length (part_stored part) ≤ 5 * (field_count + 8)
-part_size_most part few = omega (arith, part_size part, few.fields, few.levers, stored_all_short part.fields.now, stored_all_short part.levers.now)
+-- the bytes of a file are those of its four lists
+pub numbers_size : (fields levers own other_levers : List ℕ)
+    → length (stored_all fields) + length (stored_all levers) + length (stored_all own) + length (stored_all other_levers)
+    ≡ length (numbers_stored fields levers own other_levers)
+numbers_size fields levers own other_levers =
+    omega (
+      arith,
+      length-append (part_stored fields levers) (part_stored own other_levers),
+      length-append (stored_all fields) (stored_all levers),
+      length-append (stored_all own) (stored_all other_levers),
+    )
 
--- the bytes of a file are those of its parts
-pub numbers_size : (first second : PartNumbers) → length (part_stored first) + length (part_stored second) ≡ length (numbers_stored first second)
-numbers_size first second = omega (arith, length-append (part_stored first) (part_stored second))
-
-pub numbers_fit : (first second : PartNumbers) (room : ℕ) → FileParts first second
-    → 1 + 5 * (length first.fields.now + length first.levers.now - 1 + (length second.fields.now + length second.levers.now)) ≤ room
-    → true ≡ leb (length (numbers_stored first second)) room
-numbers_fit first second room parts wide =
+pub numbers_fit : (fields levers own other_levers : List ℕ) (room : ℕ) → FileParts fields levers own other_levers
+    → 1 + 5 * (length fields - 1 + length levers + length own + length other_levers) ≤ room
+    → true ≡ leb (length (numbers_stored fields levers own other_levers)) room
+numbers_fit fields levers own other_levers room parts wide =
     sym (le-leb _ room
     (omega (
       arith,
-      numbers_size first second,
-      part_size first,
-      part_size second,
-      parts.some,
-      first_short first.fields.now parts.count,
-      stored_all_short first.levers.now,
-      stored_all_short second.fields.now,
-      stored_all_short second.levers.now,
+      numbers_size fields levers own other_levers,
+      first_short fields parts.count,
+      stored_all_short levers,
+      stored_all_short own,
+      stored_all_short other_levers,
     )))
 
 pub short_of_room : (bytes buffer : List ℕ) → leb (length bytes) (length buffer) ≡ false → turned_down buffer 5 ≡ writing_if_room bytes buffer
@@ -87,42 +89,29 @@ pub own_count_lem : (joint : Joint) → length (second_fields joint) ≤ own_cou
 unfolding fields_of own_of
 own_count_lem joint = omega arith
 
-module _ (joint : Joint) {fields levers : List ℕ} {rows : ℕ} (numbers : fields ≡ first_fields joint)
-    (arms : levers ≡ take rows joint.face.levers) (by : rows ≡ first_rows joint.face.rows) where
-  pub file_alone : two_faced joint.face.rows ≡ false
-      → stored_all fields ++ stored_all levers ++ (stored_all [] ++ stored_all []) ≡ file New joint
+module _ (joint : Joint) {fields levers : List ℕ} {rows : ℕ} (numbers : fields ≡ first_fields joint) (arms : levers ≡ joint.face.levers)
+    (by : rows ≡ first_rows joint.face.rows) where
+  pub file_alone : two_faced joint.face.rows ≡ false → numbers_stored fields (take rows levers) [] [] ≡ file New joint
   unfolding file part_of stored_all fields_of
   file_alone one = rw (one, numbers, arms, by)
 
-  pub file_both : {own other_levers : List ℕ} → own ≡ second_fields joint → other_levers ≡ take joint.other.rows joint.other.levers
-      → two_faced joint.face.rows ≡ true
-      → stored_all fields ++ stored_all levers ++ (stored_all own ++ stored_all other_levers) ≡ file New joint
-  unfolding file part_of fields_of
-  file_both numbers' arms' two = rw (two, numbers, arms, by, numbers', arms')
+  module _ {own other_levers : List ℕ} (numbers' : own ≡ second_fields joint) (arms' : other_levers ≡ joint.other.levers) where
+    pub file_both : two_faced joint.face.rows ≡ true
+        → numbers_stored fields (take rows levers) own (take joint.other.rows other_levers) ≡ file New joint
+    unfolding file part_of fields_of
+    file_both two = rw (two, numbers, arms, by, numbers', arms')
 
-module _ (joint : Joint) (first : PartNumbers) {rows : ℕ} (numbers : first.fields.now ≡ first_fields joint)
-    (arms : first.levers.now ≡ take rows joint.face.levers) (by : rows ≡ first_rows joint.face.rows) where
   -- and they are no more than a file has
   module _ (right : (rows_check joint).1 ≡ true) where
-    pub first_counts : (second : PartNumbers) → Few second → FileParts first second
+    pub first_counts : (own other_levers : List ℕ) → length own ≤ own_count → length other_levers ≤ 8 → FileParts fields (take rows levers) own other_levers
     unfolding fields_of
-    first_counts second few =
-        let rows_few = first_rows_few joint right in
+    first_counts own other_levers own_few other_rows =
+        let few = first_rows_few joint right in
         record {
           some = rw numbers (omega arith);
-          count = rw numbers (omega (arith, count_most joint.face.rows rows_few));
-          first_few =
-              record {
-                fields = rw numbers (omega arith);
-                levers = omega (arith, ap length arms, length-take rows joint.face.levers, by, rows_few);
-              };
-          second_few = few;
+          few = rw numbers (omega arith);
+          count = rw numbers (omega (arith, count_most joint.face.rows few));
+          rows = omega (arith, length-take rows levers, by, few);
+          own_few = own_few;
+          other_rows = other_rows;
         }
-
-pub second_few : (joint : Joint) (second : PartNumbers) → second.fields.now ≡ second_fields joint
-    → second.levers.now ≡ take joint.other.rows joint.other.levers → joint.other.rows ≤ 8 → Few second
-second_few joint second numbers arms few =
-    record {
-      fields = omega (arith, ap length numbers, own_count_lem joint);
-      levers = omega (arith, ap length arms, length-take joint.other.rows joint.other.levers);
-    }

@@ -35,6 +35,14 @@ next_left kind bytes = go (read_joint kind bytes) refl
     go (got joint rest) e = sym (joint_end kind bytes joint rest e).is
     go (refused r) e = drop-length bytes
 
+-- what follows the place of a joint that was read
+pub read_left : (kind : FileKind) (bytes : List ℕ) {joint : Joint} {next : ℕ}
+    → record { refusal = 0; joint = joint; next = next } ≡ reading kind bytes
+    → take (length bytes - next) (drop next bytes) ≡ rest_of kind bytes
+read_left kind bytes {joint} {next} is =
+    let place : next ≡ (reading kind bytes).next = ap (λ (r : Reading). r.next) is in
+    take_all (length bytes - next) (drop next bytes) (omega (arith, length-drop next bytes)) ∙ rw place (next_left kind bytes)
+
 -- ---- no refusal has the number 0
 
 numbered_part : (first : Bool) (others : ℕ) (bytes : List ℕ) → Numbered (read_part first others bytes)
@@ -74,11 +82,3 @@ read_refused kind bytes = go (read_joint kind bytes)
         → parse ≡ refused (answer (length bytes) parse).refusal
     go (got joint rest) some = absurd (some refl)
     go (refused r) some = refl
-
--- and so is what follows the place of a joint that was read
-pub next_left_lem : (kind : FileKind) (bytes : List ℕ) {joint : Joint} {next : ℕ}
-    → record { refusal = 0; joint = joint; next = next } ≡ reading kind bytes
-    → take (length bytes - next) (drop next bytes) ≡ rest_of kind bytes
-next_left_lem kind bytes {joint} {next} is =
-    let place : next ≡ (reading kind bytes).next = ap (λ (r : Reading). r.next) is in
-    take_all (length bytes - next) (drop next bytes) (omega (arith, length-drop next bytes)) ∙ rw place (next_left kind bytes)

@@ -10,7 +10,6 @@ use Rattle.fields.specs.Fields.{field_count, own_count, second_face_of}
 use Rattle.jointfile.specs.File.{Part, lacking, stored_field_count, no_part, read_others, read_part, no_joint, Reading}
 use Rattle.jointfile.specs.Write.{first_fields, second_fields, Writing, turned_down, rows_check, spare_check, room_check, tried}
 use Rattle.jointfile.specs.declared.FileKind.{FileKind}
-use Rattle.jointfile.specs.declared.PartNumbers.{PartNumbers}
 use Rattle.jointfile.specs.declared.Reading.{Reading as ReadJoint}
 use Rattle.jointfile.specs.declared.ReadRefusal.{ReadRefusal}
 use Rattle.jointfile.specs.declared.ReadRefusal.TheVariants.{BytesEnd, WrongForm, RowCount as NoRowCount}
@@ -58,24 +57,21 @@ pub record PartRead (bytes : List ℕ) (from : ℕ) (first : Bool) (entry fields
   pub means : part_meaning read_refusal bytes fields levers run ≡ read_part first (length entry - 1) (drop from bytes)
   pub within : end_place run ≤ length bytes
 
--- The bytes of the numbers of a part; and of a file: of the first face's, and of the second's, which has none where there is no second.
-abbrev pub part_stored : PartNumbers → List ℕ
-part_stored part = stored_all part.fields.now ++ stored_all part.levers.now
+-- The bytes of the numbers of a part; and of a file: of the first face, and of the second, none where there is no second.
+abbrev pub part_stored : (fields levers : List ℕ) → List ℕ
+part_stored fields levers = stored_all fields ++ stored_all levers
 
-abbrev pub numbers_stored : (first second : PartNumbers) → List ℕ
-numbers_stored first second = part_stored first ++ part_stored second
+abbrev pub numbers_stored : (fields levers own other_levers : List ℕ) → List ℕ
+numbers_stored fields levers own other_levers = part_stored fields levers ++ part_stored own other_levers
 
--- The numbers of a part, no more than a file has.
-pub record Few (part : PartNumbers) : Type 0 where
-  pub fields : length part.fields.now ≤ field_count
-  pub levers : length part.levers.now ≤ 8
-
--- The numbers of a file, of which the first takes one byte.
-pub record FileParts (first second : PartNumbers) : Type 0 where
-  pub some : 1 ≤ length first.fields.now
-  pub count : get_or first.fields.now 0 0 < 128
-  pub first_few : Few first
-  pub second_few : Few second
+-- The numbers of a file, no more than a file has, of which the first takes one byte.
+pub record FileParts (fields levers own other_levers : List ℕ) : Type 0 where
+  pub some : 1 ≤ length fields
+  pub few : length fields ≤ field_count
+  pub count : get_or fields 0 0 < 128
+  pub rows : length levers ≤ 8
+  pub own_few : length own ≤ own_count
+  pub other_rows : length other_levers ≤ 8
 
 -- Numbers of a part that the program can hold: eight levers, and each number of the file in 32 bits. Of N that is the number that it is
 -- stored as, which takes 32 bits just where N is in the range of a signed field of 32.

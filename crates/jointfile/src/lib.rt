@@ -14,7 +14,7 @@ ghost use Rattle.fields.specs.Fields.{field};
 ghost use Rattle.jointfile.specs.File.{stored_field_count, rows_by, read_second, answer, reading, rest_of};
 ghost use Rattle.jointfile.specs.Write.{rows_check, spare_check, file, writing};
 ghost use Rattle.jointfile.specs.Answers.{read_refusal, write_refusal, reading_meaning, OthersRead, PartRead};
-ghost use Rattle.jointfile.specs.Answers.{written_meaning, writing_if_room, part_stored, numbers_stored, Few, FileParts};
+ghost use Rattle.jointfile.specs.Answers.{written_meaning, writing_if_room, part_stored, numbers_stored, FileParts};
 ghost use Rattle.jointfile.specs.declared.FileKind.TheVariants.{New};
 
 use buffers::Writer;
@@ -194,68 +194,48 @@ const LEAST_FILE: usize = FIELD_COUNT + 1;
 
 pub const LEAST_TWO_FACED: usize = LEAST_FILE + OWN_COUNT + 1;
 
-// The numbers of a face's part of a file: its fields, and a lever for each row.
-#[derive(Clone, Copy)]
-struct PartNumbers<'a> {
-    fields: &'a [u32],
-    levers: &'a [u32],
-}
-
-impl PartNumbers<'_> {
-    fn count(self) -> usize
-        requires { Few self }
-        ensures { result ≡ length self.entry.fields.now + length self.entry.levers.now }
-    {
-        self.fields.len() + self.levers.len()
-    }
-
-    // The count of bytes in its stored form.
-    fn size(self) -> usize
-        requires { Few self }
-        ensures { result ≡ length (part_stored self.entry) }
-    {
-        stored_size(self.fields) + stored_size(self.levers)
-    }
-
-    // Puts its stored form, for which there is room.
-    fn put(self, writer: &mut Writer)
-        requires { HasRoom writer.old (length (part_stored self)) }
-        ensures { Puts writer.old (part_stored self.entry) writer.new }
-    {
-        put_numbers(writer, self.fields);
-        put_numbers(writer, self.levers);
-    }
-}
-
-// Whether so many places hold the parts of a file. The first number takes one byte and each other at most five; only a buffer that may be
-// too short by that asks for measuring.
-fn has_room(first: PartNumbers, second: PartNumbers, room: usize) -> bool
-    requires { FileParts first second }
-    ensures { result ≡ leb (length (numbers_stored first.entry second.entry)) room }
+// Whether so many places hold the numbers of a file. The first takes one byte and each other at most five; only a buffer that may be too
+// short by that asks for measuring. They are four slices and no structs, since writing files of two faces from structs was slower.
+fn has_room(fields: &[u32], levers: &[u32], own: &[u32], other_levers: &[u32], room: usize) -> bool
+    requires { FileParts fields.now levers.now own.now other_levers.now }
+    ensures { result
+        ≡ leb (length (numbers_stored fields.now levers.now own.now other_levers.now)) room }
 {
-    if 1 + 5 * (first.count() - 1 + second.count()) <= room {
+    if 1 + 5 * (fields.len() - 1 + levers.len() + own.len() + other_levers.len()) <= room {
         return true;
     }
-    first.size() + second.size() <= room
+    stored_size(fields) + stored_size(levers) + stored_size(own) + stored_size(other_levers) <= room
 }
 
-// Puts the parts of a file into the buffer, if there is room for them, and answers how long they are.
+// Puts the numbers of a file into the buffer, if there is room for them, and answers how long they are.
 fn put_file(
-    first: PartNumbers,
-    second: PartNumbers,
+    fields: &[u32],
+    levers: &[u32],
+    own: &[u32],
+    other_levers: &[u32],
     buffer: &mut [u8],
 ) -> Result<usize, WriteRefusal>
-    requires { FileParts first second }
+    requires { FileParts fields.now levers.now own.now other_levers.now }
     ensures { written_meaning result buffer.new
-        ≡ writing_if_room (numbers_stored first.entry second.entry) buffer.old }
+        ≡ writing_if_room (numbers_stored fields.now levers.now own.now other_levers.now)
+        buffer.old }
 {
-    if !has_room(first, second, buffer.len()) {
+    if !has_room(fields, levers, own, other_levers, buffer.len()) {
         return Err(WriteRefusal::NoRoom);
     }
     let mut writer = Writer::new(buffer);
-    first.put(&mut writer);
-    second.put(&mut writer);
+    put_part(&mut writer, fields, levers);
+    put_part(&mut writer, own, other_levers);
     Ok(writer.at)
+}
+
+// Puts the numbers of a part, for which there is room.
+fn put_part(writer: &mut Writer, fields: &[u32], levers: &[u32])
+    requires { HasRoom writer.old (length (part_stored fields.now levers.now)) }
+    ensures { Puts writer.old (part_stored fields.now levers.now) writer.new }
+{
+    put_numbers(writer, fields);
+    put_numbers(writer, levers);
 }
 
 // Refusal 3's question of each face that a joint has: whether it may have so many rows.
@@ -273,9 +253,9 @@ fn has_row_counts(joint: Joint) -> bool
 }
 
 // Whether the levers past so many rows are 0.
-fn is_spare_zero(rows: u32, levers: &[u32; 8]) -> bool
+fn is_spare_zero(rows: u32, levers: [u32; 8]) -> bool
     requires { rows ≤ 8 }
-    ensures { result ≡ all_zero (drop rows levers.now) }
+    ensures { result ≡ all_zero (drop rows levers) }
 {
     all_zero(&levers[rows as usize..])
 }
@@ -285,43 +265,36 @@ fn has_zero_spares(joint: Joint) -> bool
     requires { (rows_check joint).1 ≡ true }
     ensures { result ≡ (spare_check joint).1 }
 {
-    let face = joint.face;
-    if !is_spare_zero(first_rows(face.rows), &face.levers) {
+    let count = joint.face.rows;
+    if !is_spare_zero(first_rows(count), joint.face.levers) {
         return false;
     }
-    if is_two_faced(face.rows) {
-        return is_spare_zero(joint.other.rows, &joint.other.levers);
+    if is_two_faced(count) {
+        return is_spare_zero(joint.other.rows, joint.other.levers);
     }
     true
 }
 
-// Writes the file of a joint whose row counts and spare levers are right.
+// Writes the file of a joint whose row counts and spare levers are right. The levers are copied: where a part of a face's field is lent, the
+// whole face is, which takes longer.
 fn write_parts(joint: Joint, buffer: &mut [u8]) -> Result<usize, WriteRefusal>
     requires { (rows_check joint).1 ≡ true }
     ensures { written_meaning result buffer.new ≡ writing_if_room (file New joint) buffer.old }
 {
     let face = joint.face;
-    let fields = fields_of(joint.column, joint.bolts, face);
+    let eight = face.levers;
     let rows = first_rows(face.rows) as usize;
-    let first = PartNumbers {
-        fields: &fields,
-        levers: &face.levers[..rows],
-    };
+    let levers = &eight[..rows];
+    let fields = fields_of(joint.column, joint.bolts, face);
     if is_two_faced(face.rows) {
         let other = joint.other;
-        let own = own_of(fields_of(joint.column, joint.bolts, other));
+        let other_eight = other.levers;
         let other_rows = other.rows as usize;
-        let second = PartNumbers {
-            fields: &own,
-            levers: &other.levers[..other_rows],
-        };
-        return put_file(first, second, buffer);
+        let other_levers = &other_eight[..other_rows];
+        let own = own_of(fields_of(joint.column, joint.bolts, other));
+        return put_file(&fields, levers, &own, other_levers, buffer);
     }
-    let none = PartNumbers {
-        fields: &[],
-        levers: &[],
-    };
-    put_file(first, none, buffer)
+    put_file(&fields, levers, &[], &[], buffer)
 }
 
 // Writes a joint's file, of the new kind, to the front of the buffer, and answers its length. Each refusal is tried on both faces before

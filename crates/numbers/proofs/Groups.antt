@@ -11,7 +11,7 @@ use native.Mathlib.Nat.{zero-add, one-mul, add_assoc, mul-add, mul_assoc, pow-su
 use borrow.Author.Tests.{lt-ltb, le-ltb, le-leb, eq-eqb}
 use lib.Dec.{leb, ltb, eqb}
 use lib.ListN.{length, get_or, take, drop, length-drop, drop_of_length-le}
-use lib.Seq.{take_all, drop-cons, drop-drop}
+use lib.Seq.{drop-cons, drop-drop}
 use Rattle.std.specs.Prelude.{Ok, Err}
 use Rattle.std.proofs.lemmas.List.{get_or-drop}
 use Rattle.arithmetic.proofs.Tests.{split}
@@ -141,26 +141,33 @@ not_none {before} {byte} either later =
 
 -- ---- what was read from a place on, by what the bytes from there on give
 
-pub left_is : (bytes : List ℕ) (from : ℕ) {left : List ℕ} → left ≡ take (length bytes - from) (drop from bytes) → left ≡ drop from bytes
-left_is bytes from {left} is = is ∙ take_all (length bytes - from) (drop from bytes) (omega (arith, length-drop from bytes))
+-- a turn, by the place of its byte
+pub turn_at : (bytes : List ℕ) {from at scale value byte : ℕ} → Head (drop from bytes) (at - from) scale value → from ≤ at
+    → at < length bytes → byte ≡ get_or bytes at 0 → byte < 256 → Turn (drop from bytes) (at - from) scale value byte
+turn_at bytes {from} {at} head order inside reads whole =
+    let place : from + (at - from) ≡ at = omega arith in
+    record {
+      head = head;
+      inside = omega (arith, length-drop from bytes);
+      reads = rw (get_or-drop, place) reads;
+      whole = whole;
+    }
 
-pub byte_whole : (bytes : List ℕ) (from : ℕ) {left : List ℕ} (before byte : ℕ) → left ≡ drop from bytes → byte ≡ get_or left before 0
-    → get_or bytes (from + before) 0 < 256 → byte < 256
-byte_whole bytes from before byte is reads whole = rw (reads, is, get_or-drop) whole
+-- and the next
+pub head_next : {left : List ℕ} {from at scale value : ℕ} → from ≤ at → Head left (at - from + 1) scale value → Head left (at + 1 - from) scale value
+head_next {left} {from} {at} order head =
+    let one_more : at + 1 - from ≡ at - from + 1 = omega arith in
+    rw one_more head
 
-module _ {bytes left : List ℕ} {from : ℕ} (is : left ≡ drop from bytes) where
-  pub refused_there : (r : NumberRefusal) → refused (number_of r) ≡ read_number left → NumberRead bytes from (Err r)
-  refused_there r reads = record { means = rw (← is) reads; within = omega arith }
+module _ {bytes : List ℕ} {from : ℕ} where
+  pub refused_there : (r : NumberRefusal) → refused (number_of r) ≡ read_number (drop from bytes) → NumberRead bytes from (Err r)
+  refused_there r reads = record { means = reads; within = omega arith }
 
-  pub value_there : (x before : ℕ) → before < length left → got x (drop (before + 1) left) ≡ read_number left
-      → NumberRead bytes from (Ok (record { value = x; next = from + before + 1 }))
-  value_there x before inside reads =
-      let place : from + before + 1 ≡ from + (before + 1) = omega arith in
-      record {
-        means = rw (place, ← drop-drop (before + 1) from bytes, ← is) reads;
-        within = omega (arith, ap length is, length-drop from bytes);
-      }
+  pub cut_there : (at : ℕ) {scale value : ℕ} → Head (drop from bytes) (at - from) scale value → length bytes ≤ at → NumberRead bytes from (Err BytesEnd)
+  cut_there at head outside = refused_there BytesEnd (reads_cut head (omega (arith, length-drop from bytes)))
 
-pub none_there : (bytes : List ℕ) (from : ℕ) → length bytes ≤ from → NumberRead bytes from (Err BytesEnd)
-unfolding read_groups
-none_there bytes from outside = record { means = rw (drop_of_length-le bytes outside); within = omega arith }
+  pub value_there : (x at : ℕ) → from ≤ at → at < length bytes → got x (drop (at - from + 1) (drop from bytes)) ≡ read_number (drop from bytes)
+      → NumberRead bytes from (Ok (record { value = x; next = at + 1 }))
+  value_there x at order inside reads =
+      let place : from + (at - from + 1) ≡ at + 1 = omega arith in
+      record { means = rw (drop-drop (at - from + 1) from bytes, place) at reads; within = omega arith }

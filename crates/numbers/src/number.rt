@@ -31,18 +31,19 @@ pub struct Number {
     pub next: usize,
 }
 
-// Reads the number that begins at `from`. `value` is what the `before` groups before this byte make, and `scale` what this one counts.
+// The greatest fifth byte: it has the highest four of 32 bits.
+const GREATEST_FIFTH: u32 = 15;
+
+// Reads the number that begins at `from`. `value` is what the groups before `at` make, and `scale` what the next one counts.
 pub fn number_at(bytes: &[u8], from: usize) -> Result<Number, NumberRefusal>
     ensures { NumberRead bytes.now from result }
 {
-    let Some(left) = bytes.get(from..) else {
-        return Err(NumberRefusal::BytesEnd);
-    };
     let mut scale = 1;
     let mut value = 0;
-    for (before, byte) in left.iter().enumerate() {
-        let byte = u32::from(*byte);
-        if 4 <= before && 15 < byte {
+    for at in from..bytes.len() {
+        let byte = u32::from(bytes[at]);
+        let before = at - from;
+        if 4 <= before && GREATEST_FIFTH < byte {
             return Err(NumberRefusal::WrongForm);
         }
         if byte < 128 {
@@ -51,7 +52,7 @@ pub fn number_at(bytes: &[u8], from: usize) -> Result<Number, NumberRefusal>
             }
             return Ok(Number {
                 value: value + scale * byte,
-                next: from + before + 1,
+                next: at + 1,
             });
         }
         value += scale * (byte - 128);

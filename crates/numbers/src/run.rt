@@ -4,8 +4,8 @@ ghost use Rattle.buffers.specs.Writing.{Puts, HasRoom};
 ghost use Rattle.numbers.specs.Run.{all_zero, stored_all};
 ghost use Rattle.numbers.specs.Answers.{RunRead};
 
-use buffers::Writer;
 use crate::number::{NumberRefusal, number_at, put_number, stored_length};
+use buffers::Writer;
 
 // Fills `values` with the numbers that begin at `from`, as far as they can be read, and answers the place after the last.
 pub fn numbers_at(bytes: &[u8], from: usize, values: &mut [u32]) -> Result<usize, NumberRefusal>
@@ -25,8 +25,8 @@ pub fn stored_size(values: &[u32]) -> usize
     ensures { result ≡ length (stored_all values.now) }
 {
     let mut size = 0;
-    for value in values {
-        size += stored_length(*value);
+    for number in values {
+        size += stored_length(*number);
     }
     size
 }

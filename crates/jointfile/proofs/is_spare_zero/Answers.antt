@@ -11,5 +11,5 @@ pub returns : goal.returns
 returns c =
     let args = c.args in
     let rows = args.rows in
-    let levers = args.levers.now in
+    let levers = args.levers in
     c.all_zero.ensures ∙ ap all_zero (take_all (8 - rows) (drop rows levers) (omega (arith, length-drop rows levers)))

@@ -2,11 +2,12 @@
 use mathlib.Core.Path.{◌≡◌, refl, sym, ap, ◌∙◌}
 use mathlib.Core.Bool.{true}
 use native.Mathlib.Omega.{arith}
+use lib.ListN.{length-take}
 use Rattle.joint.specs.Faces.{two_faced}
 use Rattle.fields.specs.Fields.{own_of}
 use Rattle.jointfile.specs.Write.{second_fields}
 use Rattle.jointfile.proofs.Faces.{first_rows_few, second_rows_few}
-use Rattle.jointfile.proofs.IfRoom.{file_alone, file_both, first_counts, second_few}
+use Rattle.jointfile.proofs.IfRoom.{own_count_lem, file_alone, file_both, first_counts}
 use Rattle.jointfile.proofs.write_parts.Goals as goal
 use Rattle.jointfile.proofs.write_parts.Goals.{After-own_of-own}
 
@@ -18,15 +19,25 @@ own : (c : After-own_of-own) → c.own_of-own.result ≡ second_fields c.args.jo
 own c =
     c.own_of-own.ensures ∙ ap own_of c.fields_of.ensures
 
-pub shared_ref_as_front-first : goal.shared_ref_as_front-first
-shared_ref_as_front-first c = rw c.first_rows-rows.ensures (first_rows_few c.args.joint c.requires)
+pub slice_bounds-eight-end : goal.slice_bounds-eight-end
+slice_bounds-eight-end c = omega (arith, c.first_rows-rows.ensures, first_rows_few c.args.joint c.requires)
+
+pub slice_bounds-levers-end : goal.slice_bounds-levers-end
+slice_bounds-levers-end c =
+    let joint = c.args.joint in
+    omega (arith, length-take c.first_rows-rows.result joint.face.levers, c.first_rows-rows.ensures, first_rows_few joint c.requires)
 
 pub put_file-requires : goal.put_file-requires
 put_file-requires c =
     let here = goal.at.put_file-requires c in
     let joint = c.args.joint in
-    first_counts joint _ c.fields_of-fields.ensures refl c.first_rows-rows.ensures c.requires _
-    (second_few joint _ (own here.After-own_of-own) refl (second_rows_few joint c.requires (two here.After-own_of-own)))
+    first_counts joint c.fields_of-fields.ensures refl c.first_rows-rows.ensures c.requires _ _
+    (rw (own here.After-own_of-own) (own_count_lem joint))
+    (omega (
+      arith,
+      length-take joint.other.rows joint.other.levers,
+      second_rows_few joint c.requires (two here.After-own_of-own),
+    ))
 
 pub returns-then-is_two_faced : goal.returns-then-is_two_faced
 returns-then-is_two_faced c =
@@ -38,8 +49,7 @@ returns-then-is_two_faced c =
 
 pub put_file-requires-2 : goal.put_file-requires-2
 put_file-requires-2 c =
-    first_counts c.args.joint _ c.fields_of-fields.ensures refl c.first_rows-rows.ensures c.requires _
-    (record { fields = omega arith; levers = omega arith })
+    first_counts c.args.joint c.fields_of-fields.ensures refl c.first_rows-rows.ensures c.requires _ _ (omega arith) (omega arith)
 
 pub returns : goal.returns
 returns c =

@@ -11,14 +11,14 @@ overflow_add-size c =
     let numbers = c.args.values.now in
     omega (
       arith,
-      size_next numbers c.loop-value.value-index c.loop-value-test.true,
+      size_next numbers c.loop-number.number-index c.loop-number-test.true,
       c.stored_length-size.ensures,
       stored_all_short numbers,
       c.well_formed,
     )
 
-pub loop-value-preserved : goal.loop-value-preserved
-loop-value-preserved c = omega (arith, size_next c.args.values.now c.loop-value.value-index c.loop-value-test.true, c.stored_length-size.ensures)
+pub loop-number-preserved : goal.loop-number-preserved
+loop-number-preserved c = omega (arith, size_next c.args.values.now c.loop-number.number-index c.loop-number-test.true, c.stored_length-size.ensures)
 
 pub returns : goal.returns
-returns c = omega (arith, ap length (stored_end c.args.values.now c.loop-value.value-index c.loop-value-test.false))
+returns c = omega (arith, ap length (stored_end c.args.values.now c.loop-number.number-index c.loop-number-test.false))

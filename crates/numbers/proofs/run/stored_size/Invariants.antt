@@ -5,5 +5,5 @@ use lib.ListN.{length, drop}
 use Rattle.numbers.specs.Run.{stored_all}
 use Rattle.numbers.proofs.run.stored_size.Given as goal
 
-abbrev pub invariant-loop-value : goal.invariant-loop-value
-invariant-loop-value l = l.size + length (stored_all (drop l.value-index l.values)) ≡ length (stored_all l.values)
+abbrev pub invariant-loop-number : goal.invariant-loop-number
+invariant-loop-number l = l.size + length (stored_all (drop l.number-index l.values)) ≡ length (stored_all l.values)
