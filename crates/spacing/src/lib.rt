@@ -24,7 +24,6 @@ pub struct Spacing {
 pub fn spacing_of(column: Column, face: Face) -> Spacing
     ensures { result ≡ spacing_of column face }
 {
-    let levers = face.levers;
     let gauge = face.layout.gauge;
     Spacing {
         column: bolt_distance(gauge, column.web, column.radius),
@@ -32,7 +31,7 @@ pub fn spacing_of(column: Column, face: Face) -> Spacing
         column_edge: edge_distance(column.width, gauge),
         plate_edge: edge_distance(face.plate.width, gauge),
         extension: extension_distance(
-            levers[0],
+            face.levers[0],
             face.beam.flange,
             face.beam.depth,
             face.welds.flange,
@@ -44,29 +43,20 @@ pub fn spacing_of(column: Column, face: Face) -> Spacing
 fn bolt_distance(gauge: u32, web: u32, fillet: u32) -> u64
     ensures { result ≡ 5 * (gauge - web) - 8 * fillet }
 {
-    less_or_zero(5 * (gauge as u64), 5 * (web as u64) + 8 * (fillet as u64))
+    (5 * (gauge as u64)).saturating_sub(5 * (web as u64) + 8 * (fillet as u64))
 }
 
 // e, from a bolt to the edge.
 fn edge_distance(width: u32, gauge: u32) -> u64
     ensures { result ≡ 5 * (width - gauge) }
 {
-    less_or_zero(5 * (width as u64), 5 * (gauge as u64))
+    (5 * (width as u64)).saturating_sub(5 * (gauge as u64))
 }
 
 // mx, from the extension row to the weld on the beam flange.
 fn extension_distance(lever: u32, flange: u32, depth: u32, weld: u32) -> u64
     ensures { result ≡ 5 * (2 * lever + flange - 2 * depth) - 8 * weld }
 {
-    less_or_zero(
-        10 * (lever as u64) + 5 * (flange as u64),
-        10 * (depth as u64) + 8 * (weld as u64),
-    )
-}
-
-// a less b, 0 where that is below 0.
-fn less_or_zero(a: u64, b: u64) -> u64
-    ensures { result ≡ a - b }
-{
-    if a < b { 0 } else { a - b }
+    let above = 10 * (lever as u64) + 5 * (flange as u64);
+    above.saturating_sub(10 * (depth as u64) + 8 * (weld as u64))
 }
