@@ -55,6 +55,7 @@ pub fn steel_strengths(column: Column, beam: Beam, plate: Plate) -> SteelStrengt
 }
 
 // Table 9, thickness in tenths of a millimetre.
+#[tactic(auto, unfolding(crate::specs::Steel::steel_strength))]
 pub fn steel_strength(grade: u32, thickness: u32) -> u64
     ensures { result ≡ steel_strength grade thickness }
 {
@@ -79,6 +80,7 @@ fn by_thickness(thickness: u32, thin: u64, medium: u64, thick: u64) -> u64
     }
 }
 
+#[tactic(auto, unfolding(crate::specs::Steel::steel_bearing))]
 pub fn steel_bearing(grade: u32) -> u64
     ensures { result ≡ steel_bearing grade }
 {
@@ -89,10 +91,11 @@ pub fn steel_bearing(grade: u32) -> u64
     }
 }
 
+#[tactic(auto, unfolding(crate::specs::Steel::weld_strength))]
 pub fn weld_strength(beam_grade: u32, plate_grade: u32) -> u64
     ensures { result ≡ weld_strength beam_grade plate_grade }
 {
-    if (beam_grade == 275) | (plate_grade == 275) {
+    if beam_grade == 275 || plate_grade == 275 {
         220
     } else {
         250
@@ -100,6 +103,7 @@ pub fn weld_strength(beam_grade: u32, plate_grade: u32) -> u64
 }
 
 // The area is in tenths of mm².
+#[tactic(auto, unfolding(crate::specs::Bolt::pair_tension, crate::specs::Bolt::pair_shear))]
 pub fn bolt_strengths(bolts: Bolts, area: u32) -> BoltStrengths
     ensures { result ≡ bolt_strengths bolts area }
 {
@@ -114,29 +118,40 @@ pub fn bolt_strengths(bolts: Bolts, area: u32) -> BoltStrengths
     }
 }
 
+#[tactic(auto, unfolding(crate::specs::Bolt::bolt_tension, crate::specs::Bolt::bolt_shear, crate::specs::Bolt::bolt_bearing, crate::specs::Bolt::bolt_ultimate,))]
 fn class_strengths(class: u32) -> ClassStrengths
     ensures { result ≡ class_strengths class }
 {
     match class {
-        46 => class_of(240, 160, 460, 400),
-        88 => class_of(560, 375, 1000, 800),
-        109 => class_of(700, 400, 1300, 1000),
-        _ => class_of(0, 0, 0, 0),
-    }
-}
-
-fn class_of(tension: u64, shear: u64, bearing: u64, ultimate: u64) -> ClassStrengths
-    ensures { result ≡ record { tension = tension; shear = shear; bearing = bearing; ultimate = ultimate } }
-{
-    ClassStrengths {
-        tension,
-        shear,
-        bearing,
-        ultimate,
+        46 => ClassStrengths {
+            tension: 240,
+            shear: 160,
+            bearing: 460,
+            ultimate: 400,
+        },
+        88 => ClassStrengths {
+            tension: 560,
+            shear: 375,
+            bearing: 1000,
+            ultimate: 800,
+        },
+        109 => ClassStrengths {
+            tension: 700,
+            shear: 400,
+            bearing: 1300,
+            ultimate: 1000,
+        },
+        _ => ClassStrengths {
+            tension: 0,
+            shear: 0,
+            bearing: 0,
+            ultimate: 0,
+        },
     }
 }
 
 // Refusal 14: flange and plate both too thick for the bolts. Work calls it for a joint whose fields are in range.
+#[tactic(auto, unfolding(crate::specs::Thickness::both_too_thick))]
 pub fn both_too_thick(
     column: Column,
     plate: Plate,
@@ -147,9 +162,10 @@ pub fn both_too_thick(
     ensures { result ≡ both_too_thick column plate steel bolt }
 {
     let limit = thickness_limit(bolt.diameter, bolt.ultimate);
-    too_thick(column.flange, steel.column, limit) & too_thick(plate.thickness, steel.plate, limit)
+    too_thick(column.flange, steel.column, limit) && too_thick(plate.thickness, steel.plate, limit)
 }
 
+#[tactic(auto, unfolding(crate::specs::Thickness::thickness_limit))]
 fn thickness_limit(diameter: u64, ultimate: u64) -> u64
     requires { Within bolt_diameters diameter × Within ultimate_strengths ultimate }
     ensures { result ≡ thickness_limit diameter ultimate }
@@ -157,6 +173,7 @@ fn thickness_limit(diameter: u64, ultimate: u64) -> u64
     10000 * diameter * diameter * ultimate
 }
 
+#[tactic(auto, unfolding(crate::specs::Thickness::too_thick))]
 fn too_thick(thickness: u32, strength: u64, limit: u64) -> bool
     requires { (thickness ≤ most_thickness) × Within yield_strengths strength }
     ensures { result ≡ too_thick thickness strength limit }

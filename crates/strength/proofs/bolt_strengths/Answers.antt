@@ -5,7 +5,7 @@ use mathlib.Core.Path.{◌≡◌}
 use native.Mathlib.Omega.{arith}
 use Rattle.arithmetic.specs.Range.{Within, ◌to◌}
 use Rattle.arithmetic.proofs.Bounds.{exactly, at_most, ◌⊗◌, fits}
-use Rattle.strength.specs.Bolt.{class_strengths, pair_tension, pair_shear}
+use Rattle.strength.specs.Bolt.{class_strengths}
 use Rattle.strength.proofs.Ranges.{tension_most, shear_most}
 use Rattle.strength.proofs.bolt_strengths.Goals as goal
 use Rattle.strength.proofs.bolt_strengths.Goals.{After-class_strengths-class}
@@ -27,9 +27,3 @@ pub overflow_mul-result-2 : goal.overflow_mul-result-2
 overflow_mul-result-2 c =
     let here = goal.at.overflow_mul-result-2 c in
     rw (class_is here.After-class_strengths-class) (fits (exactly 2 ⊗ (area_most here.After-class_strengths-class) ⊗ shear_most _) tt)
-
-pub returns : goal.returns
-unfolding pair_tension pair_shear
-returns c =
-    let here = goal.at.returns c in
-    rw (class_is here.After-class_strengths-class)
