@@ -2,7 +2,7 @@
 // place; and bolts far enough from web, weld and edge. Rows count from 0. Work calls these for faces whose fields are in range.
 #![tactic(auto)]
 
-ghost use Rattle.std.specs.Prelude.{◌≡◌, ℕ, ◌≤◌, leb};
+ghost use Rattle.std.specs.Prelude.{◌≡◌, ℕ, ◌≤◌, leb, length};
 ghost use Rattle.arithmetic.specs.Range.{Within, ◌to◌};
 ghost use Rattle.arithmetic.specs.Table.{every};
 ghost use Rattle.joint.specs.Ranges.{row_counts, most_lever};
@@ -13,10 +13,12 @@ use joint::Face;
 use spacing::Spacing;
 
 // The least pitch of so many rows: how far a lever is below the one above it, 0 where one isn't below. It tells of every distance from 1
-// to the greatest lever whether the levers fall by it. One row has no pitch, and answers the greatest lever.
+// to the greatest lever whether the levers fall by it. One row has no pitch, and answers the greatest lever. That the array has
+// eight levers is promised too: a caller that has the face in a struct behind a reference doesn't know it.
 pub fn least_pitch(rows: usize, levers: [u32; 8]) -> u64
     requires { rows ≤ row_counts.high }
     ensures by_index { (distance : ℕ) → Within (1 to most_lever) distance → fall_by distance rows levers ≡ leb distance result }
+    ensures levers_len { length levers ≡ row_counts.high }
 {
     let mut pitch: u32 = 20000;
     for pair in levers[..rows].windows(2) {

@@ -16,8 +16,8 @@ loop-pair-preserved c =
     let s = c.in-Some.ensures.steps in
     (search rules, λ distance within. let more = l.invariant.1 distance within ∙ next_pair distance within.low l.pitch l.pair-iterator.rest.now (omega arith) in search rules)
 
-pub returns : goal.returns
-returns c =
+pub returns-clause-by_index : goal.returns-clause-by_index
+returns-clause-by_index c =
     let l = c.loop-pair in
     let s = c.in-None.ensures.steps in
-    record { by_index = λ distance within. rw c.from.ensures (l.invariant.1 distance within ∙ no_pair distance l.pitch l.pair-iterator.rest.now (omega arith)) }
+    λ distance within. rw c.from.ensures (l.invariant.1 distance within ∙ no_pair distance l.pitch l.pair-iterator.rest.now (omega arith))
