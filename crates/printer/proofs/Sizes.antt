@@ -19,7 +19,7 @@ use Rattle.jointfile.proofs.RoundTrip.{Took, writes_again}
 use Rattle.jointfile.proofs.Sizes.{file_size, two_faced_size}
 use Rattle.items.specs.Digits.{digits}
 use Rattle.items.specs.Items.{spaced}
-use Rattle.outcome.specs.declared.PanelVerdict.{PanelVerdict}
+use Rattle.outcome.specs.Outcome.{PanelVerdict}
 use Rattle.line.specs.Longest.{most_line}
 use Rattle.line.specs.Line.{is_asked, concatenated}
 use Rattle.line.proofs.Lines.{refusal_short, concatenated-append, outcome_few, outcome_short}

@@ -5,16 +5,15 @@ use mathlib.Core.Path.{◌≡◌, refl, ap, ◌∙◌}
 use mathlib.Core.List.{List, [], ◌∷◌, ◌++◌}
 use mathlib.Core.Bool.{Bool, true, false}
 use native.Mathlib.Omega.{arith}
-use borrow.Author.Tests.{eqb-true, eqb-false, eq-eqb, ne_eqb, lt-ltb, le-ltb}
+use borrow.Author.Tests.{eqb-true, eqb-false, lt-ltb, le-ltb}
 use lib.Dec.{eqb}
 use lib.ListN.{length, drop}
 use Rattle.joint.specs.declared.Joint.{Joint}
 use Rattle.numbers.specs.Parse.{Parse, got, refused}
 use Rattle.jointfile.specs.File.{read_joint, answer, reading, left_of, rest_of}
-use Rattle.jointfile.specs.declared.Reading.{Reading}
 use Rattle.jointfile.proofs.Ends.{joint_shorter}
 use Rattle.jointfile.proofs.Places.{next_left, read_taken, read_refused}
-use Rattle.line.specs.Line.{Line, refusal_line}
+use Rattle.line.specs.Line.{Line}
 use Rattle.printer.specs.Sheet.{sheet_kind, most_input, joint_lines, lines_then, lines_within, lines_of, over_long, sheet_lines}
 use Rattle.printer.specs.Answers.{reading_lines}
 
@@ -81,17 +80,6 @@ next_positive bytes some = go (read_joint sheet_kind bytes) refl
     go : (parse : Parse Joint) → read_joint sheet_kind bytes ≡ parse → 0 < (answer (length bytes) parse).next
     go (got joint left) e = let shorter = joint_shorter sheet_kind bytes joint left e in omega arith
     go (refused r) e = some
-
--- ---- the lines of what was read, case by case
-
-module _ (number : ℕ) (answer : Reading) where
-  pub reading_joint : answer.refusal ≡ 0 → joint_lines number answer.joint ≡ reading_lines number answer
-  unfolding reading_lines
-  reading_joint none = rw (eq-eqb answer.refusal 0 none)
-
-  pub reading_refused : (answer.refusal ≡ 0 → ⊥) → refusal_line number (answer.refusal ∷ []) ∷ [] ≡ reading_lines number answer
-  unfolding reading_lines
-  reading_refused some = rw (ne_eqb answer.refusal 0 some)
 
 -- ---- the sheet, case by case
 

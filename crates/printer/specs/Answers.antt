@@ -1,14 +1,13 @@
 -- What printing a sheet into a lent buffer comes to, and the figures that its code goes by. Rule 13.2 of the sheet, and what serves the
 -- code. Assumes nothing.
-use Rattle.std.specs.Prelude.{ℕ, ◌+◌, ◌-◌, ◌*◌, ◌/◌, List, [], ◌∷◌, cond, leb, eqb, length}
+use Rattle.std.specs.Prelude.{ℕ, ◌+◌, ◌-◌, ◌*◌, ◌/◌, List, [], ◌∷◌, cond, leb, eqb, length, Result, Ok, Err}
 use Rattle.buffers.specs.Put.{at_front}
-use Rattle.jointfile.specs.declared.Reading.{Reading}
+use Rattle.jointfile.specs.File.{Reading}
 use Rattle.jointfile.specs.Answers.{least_two_faced}
 use Rattle.line.specs.Line.{Line, refusal_line}
 use Rattle.line.specs.Longest.{most_line}
 use Rattle.printer.specs.Sheet.{most_input, joint_lines}
-use Rattle.printer.specs.declared.Printed.{Printed}
-use Rattle.printer.specs.declared.Printed.TheVariants.{Length, NoRoom}
+use Rattle.printer.specs.declared.NoRoom.{NoRoom}
 
 -- what printing gives: the count of bytes, or that there is no room for all of them; and the buffer at exit
 pub data Printing : Type 0 where
@@ -19,10 +18,10 @@ pub data Printing : Type 0 where
 unfoldable pub printing : (bytes buffer : List ℕ) → Printing
 printing bytes buffer = cond (leb (length bytes) (length buffer)) (whole (length bytes) (at_front bytes buffer)) (no_room buffer)
 
--- What each case of the enum `Printed` says, with the buffer at exit.
-abbrev pub printed_meaning : Printed → List ℕ → Printing
-printed_meaning (Length size) buffer = whole size buffer
-printed_meaning NoRoom buffer = no_room buffer
+-- What each answer says, with the buffer at exit.
+abbrev pub printed_meaning : Result ℕ NoRoom → List ℕ → Printing
+printed_meaning (Ok size) buffer = whole size buffer
+printed_meaning (Err none) buffer = no_room buffer
 
 -- No line takes fewer bytes of input, but that of what is left: two lines take the shortest file of two faces.
 abbrev pub least_per_line : ℕ

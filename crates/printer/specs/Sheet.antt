@@ -10,7 +10,7 @@ use Rattle.jointfile.specs.declared.FileKind.TheVariants.{New}
 use Rattle.items.specs.Digits.{decimal}
 use Rattle.items.specs.Items.{letter}
 use Rattle.line.specs.Line.{Line, line_of, refusal_line, outcome_lines, concatenated}
-use Rattle.outcome.specs.declared.Outcome.{Outcome}
+use Rattle.outcome.specs.Outcome.{Outcome}
 use Rattle.work.specs.Work.{worked}
 
 -- rule 9.7: it reads files of the new kind

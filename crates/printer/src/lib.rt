@@ -1,18 +1,19 @@
 // The sheet (rules 12): joint files end to end in, a line out for each face, or one for a refusal. Each joint is read once, worked once and
-// put straight into the caller's buffer; the input is walked by the place after each joint. Only where the output may be too short are the
-// lines measured first, since such an output stays as it was.
+// put straight into the caller's buffer; the input is walked by what is left after each joint. Only where the output may be too short are
+// the lines measured first, since such an output stays as it was.
 #![tactic(auto)]
 
-ghost use Rattle.std.specs.Prelude.{◌+◌, ◌≤◌, ◌≡◌, [], ◌∷◌, leb, length};
+ghost use Rattle.std.specs.Prelude.{◌≤◌, ◌≡◌, [], ◌∷◌, leb, length};
 ghost use Rattle.buffers.specs.Put.{Put};
 ghost use Rattle.line.specs.Line.{concatenated};
-ghost use Rattle.printer.specs.Sheet.{most_input, worked_built_in, lines_of, over_long, sheet_of};
-ghost use Rattle.printer.specs.Answers.{printing, printed_meaning, most_printed, reading_lines};
+ghost use Rattle.printer.specs.Sheet.{most_input, joint_lines, lines_of, over_long, sheet_of};
+ghost use Rattle.printer.specs.Answers.{printing, printed_meaning, most_printed};
 
+use buffers::Writer;
+use items::{Counter, Sink};
 use joint::{Joint, first_rows};
-use jointfile::{FileKind, LEAST_TWO_FACED, Reading, read};
-use line::{MOST_LINE, outcome_size, put_outcome, put_read_refusal, read_refusal_size};
-use outcome::Outcome;
+use jointfile::{FileKind, LEAST_TWO_FACED, read};
+use line::{MOST_LINE, put_outcome, put_read_refusal};
 
 // Joints count from 1.
 const FIRST: u64 = 1;
@@ -26,15 +27,13 @@ const LEAST_PER_LINE: usize = LEAST_TWO_FACED / 2;
 // No sheet is longer.
 pub const MOST_SHEET: usize = (MOST_INPUT + (LEAST_PER_LINE - 1)) / LEAST_PER_LINE * MOST_LINE;
 
-// What printing answers: the count of bytes at the buffer's front, or that there is no room for all lines.
-#[derive(Clone, Copy)]
-pub enum Printed {
-    Length(usize),
-    NoRoom,
-}
+// There is no room for all lines.
+#[derive(Clone, Copy, PartialEq, Eq, Debug)]
+pub struct NoRoom;
 
-// Prints the sheet of the input to the front of the output. Where it doesn't fit whole, the output is as it was.
-pub fn sheet(input: &[u8], output: &mut [u8]) -> Printed
+// Prints the sheet of the input to the front of the output, and answers how many bytes it takes. Where it doesn't fit whole, the output is
+// as it was.
+pub fn sheet(input: &[u8], output: &mut [u8]) -> Result<usize, NoRoom>
     ensures { printed_meaning result output.new ≡ printing (sheet_of input.now) output.old }
 {
     if MOST_INPUT < input.len() {
@@ -44,29 +43,36 @@ pub fn sheet(input: &[u8], output: &mut [u8]) -> Printed
 }
 
 // `R 4`, and nothing else.
-fn print_over_long(output: &mut [u8]) -> Printed
+fn print_over_long(output: &mut [u8]) -> Result<usize, NoRoom>
     ensures { printed_meaning result output.new ≡ printing (concatenated (over_long ∷ [])) output.old }
 {
     if output.len() < 4 {
-        return Printed::NoRoom;
+        return Err(NoRoom);
     }
-    output[0] = b'R';
-    output[1] = b' ';
-    output[2] = b'4';
-    output[3] = b'\n';
-    Printed::Length(4)
+    output[..4].copy_from_slice(b"R 4\n");
+    Ok(4)
 }
 
-fn print_joints(input: &[u8], output: &mut [u8]) -> Printed
+fn print_joints(input: &[u8], output: &mut [u8]) -> Result<usize, NoRoom>
     requires { length input.now ≤ most_input }
     ensures { printed_meaning result output.new
         ≡ printing (concatenated (lines_of 1 input.now)) output.old }
 {
-    if has_room(input, output.len()) {
-        let size = put_joints(input, output);
-        return Printed::Length(size);
+    if !has_room(input, output.len()) {
+        return Err(NoRoom);
     }
-    Printed::NoRoom
+    Ok(put_lines(input, output))
+}
+
+// Puts all lines to the front of the output, and answers their size.
+fn put_lines(input: &[u8], output: &mut [u8]) -> usize
+    requires few { length input.now ≤ most_input }
+    requires room { length (concatenated (lines_of 1 input.now)) ≤ length output.old }
+    ensures { Put output.old 0 (concatenated (lines_of 1 input.now)) output.new result }
+{
+    let mut writer = Writer::new(output);
+    put_joints(&mut writer, input);
+    writer.at
 }
 
 // Whether so many places hold the lines. Only an output that is shorter than the longest sheet of so many bytes asks for measuring.
@@ -74,10 +80,7 @@ fn has_room(input: &[u8], room: usize) -> bool
     requires { length input.now ≤ most_input }
     ensures { result ≡ leb (length (concatenated (lines_of 1 input.now))) room }
 {
-    if most_printed(input.len()) <= room {
-        return true;
-    }
-    lines_size(input) <= room
+    most_printed(input.len()) <= room || lines_size(input) <= room
 }
 
 // No sheet of `count` bytes of input is longer: a line for each `LEAST_PER_LINE` of them, and one for what is left.
@@ -88,75 +91,47 @@ fn most_printed(count: usize) -> usize
     (count + (LEAST_PER_LINE - 1)) / LEAST_PER_LINE * MOST_LINE
 }
 
-// The size of all lines. The bound keeps the joints' count in range, here and in `put_joints`.
+// The size of all lines.
 fn lines_size(input: &[u8]) -> usize
     requires { length input.now ≤ most_input }
     ensures { result ≡ length (concatenated (lines_of 1 input.now)) }
 {
-    let mut from = 0;
+    let mut counter = Counter { count: 0 };
+    put_joints(&mut counter, input);
+    counter.count
+}
+
+// Hands over all lines. A joint that can't be read is the last. The bound keeps the joints' count in range.
+fn put_joints<S: Sink>(sink: &mut S, input: &[u8])
+    requires few { length input.now ≤ most_input }
+    requires room { S.has_room sink.old (concatenated (lines_of 1 input.now)) }
+    ensures { S.takes sink.old (concatenated (lines_of 1 input.now)) sink.new }
+{
+    let mut left = input;
     let mut number = FIRST;
-    let mut size: usize = 0;
-    while from < input.len() {
-        let reading = read(&input[from..], FileKind::New);
-        size += reading_size(number, reading);
-        from += reading.next;
-        number += 1;
+    while !left.is_empty() {
+        match read(left, FileKind::New) {
+            Ok(reading) => {
+                put_joint(sink, number, reading.joint);
+                left = &left[reading.next..];
+                number += 1;
+            }
+            Err(refusal) => return put_read_refusal(sink, number, refusal.number()),
+        }
     }
-    size
 }
 
-// Puts all lines, and answers their size. A joint that can't be read is the last: the place after it is the input's end.
-fn put_joints(input: &[u8], output: &mut [u8]) -> usize
-    requires { (length input.now ≤ most_input) × (length (concatenated (lines_of 1 input.now)) ≤ length output.old) }
-    ensures { Put output.old 0 (concatenated (lines_of 1 input.now)) output.new result }
+// Works a joint with the bolts built in, and hands over its lines. Rows are shown without the mark of a second face.
+fn put_joint<S: Sink>(sink: &mut S, number: u64, joint: Joint)
+    requires { S.has_room sink.old (concatenated (joint_lines number joint)) }
+    ensures { S.takes sink.old (concatenated (joint_lines number joint)) sink.new }
 {
-    let mut from = 0;
-    let mut number = FIRST;
-    let mut at = 0;
-    while from < input.len() {
-        let reading = read(&input[from..], FileKind::New);
-        at = put_reading(output, at, number, reading);
-        from += reading.next;
-        number += 1;
-    }
-    at
-}
-
-// A joint worked with the bolts built in.
-fn work_built_in(joint: Joint) -> Outcome
-    ensures { result ≡ worked_built_in joint }
-{
-    work::work(bolttable::built_in(), joint)
-}
-
-// The size of the lines of what was read.
-fn reading_size(number: u64, reading: Reading) -> usize
-    ensures { result ≡ length (concatenated (reading_lines number reading)) }
-{
-    if reading.refusal == 0 {
-        let joint = reading.joint;
-        let rows = first_rows(joint.face.rows);
-        return outcome_size(number, rows, joint.other.rows, work_built_in(joint));
-    }
-    read_refusal_size(number, reading.refusal)
-}
-
-// Puts those lines, and answers the place after them. Rows are shown without the mark of a second face.
-fn put_reading(output: &mut [u8], at: usize, number: u64, reading: Reading) -> usize
-    requires { at + length (concatenated (reading_lines number reading)) ≤ length output.old }
-    ensures { Put output.old at (concatenated (reading_lines number reading)) output.new result }
-{
-    if reading.refusal == 0 {
-        let joint = reading.joint;
-        let rows = first_rows(joint.face.rows);
-        return put_outcome(
-            output,
-            at,
-            number,
-            rows,
-            joint.other.rows,
-            work_built_in(joint),
-        );
-    }
-    put_read_refusal(output, at, number, reading.refusal)
+    let outcome = work::work(bolttable::built_in(), joint);
+    put_outcome(
+        sink,
+        number,
+        first_rows(joint.face.rows),
+        joint.other.rows,
+        outcome,
+    );
 }

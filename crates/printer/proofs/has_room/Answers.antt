@@ -1,6 +1,6 @@
 -- `has_room` meets its contract: there is room for the longest sheet of so many bytes, or the lines were measured. Assumes nothing.
 use Prim.Native.Nat.{ℕ}
-use mathlib.Core.Path.{sym, ap}
+use mathlib.Core.Path.{sym, ap, ◌∙◌}
 use native.Mathlib.Omega.{arith}
 use borrow.Author.Tests.{le-leb}
 use lib.Dec.{leb}
@@ -14,9 +14,11 @@ pub returns-then-most_printed-room : goal.returns-then-most_printed-room
 returns-then-most_printed-room c =
     let args = c.args in
     let input = args.input.now in
-    sym
-    (le-leb (length (concatenated (lines_of 1 input))) args.room
-    (omega (arith, lines_size input (λ k. (c.type_inv.input k).fits), c.most_printed.ensures, c.if-most_printed-room.true)))
+    let most = le-leb c.most_printed.result args.room c.if-most_printed-room.true in
+    let fits =
+    le-leb (length (concatenated (lines_of 1 input))) args.room
+    (omega (arith, lines_size input (λ k. (c.type_inv.input k).fits), c.most_printed.ensures, c.if-most_printed-room.true)) in
+    most ∙ sym fits
 
-pub returns : goal.returns
-returns c = ap (λ (size : ℕ). leb size c.args.room) c.lines_size.ensures
+pub returns-else-most_printed-room : goal.returns-else-most_printed-room
+returns-else-most_printed-room c = ap (λ (size : ℕ). leb size c.args.room) c.lines_size.ensures

@@ -1,62 +1,58 @@
--- `put_joints` meets its contract: the loop's head is `PutHead`, and a line that was put carries it on. The measure is what is left of
--- the input. Assumes nothing.
-use Prim.Native.Nat.{◌+◌, ◌-◌, ◌<◌}
-use mathlib.Core.Path.{◌≡◌, ap, ◌∙◌}
+-- `put_joints` meets its contract: the loop's head is `WalkHead`. A joint that was read carries it on, and a refusal or the input's end ends
+-- it. Assumes nothing.
+use Prim.Native.Nat.{◌+◌}
+use mathlib.Core.Path.{sym, subst}
+use mathlib.Core.List.{List}
 use native.Mathlib.Omega.{arith}
-use lib.ListN.{length, drop, length-drop}
-use lib.Seq.{take_all}
-use Rattle.jointfile.specs.File.{reading}
-use Rattle.printer.specs.Sheet.{sheet_kind}
-use Rattle.printer.proofs.Prints.{PutHead, put_start, put_room, put_on, put_done, walk_onward}
+use Prim.Native.Nat.{ℕ}
+use lib.ListN.{length-drop}
+use Rattle.printer.proofs.Prints.{WalkHead, some_left, no_lines_left, left_after, lines_read, lines_refused, next_onward}
 use Rattle.printer.proofs.put_joints.Goals as goal
-use Rattle.printer.proofs.put_joints.Goals.{After-put_reading-at, After-read-reading}
 
-read_here : (c : After-read-reading) → c.read-reading.result ≡ reading sheet_kind (drop c.loop-from.from (c.args.input.now))
-read_here c =
-    let input = c.args.input.now in
-    let from = c.loop-from.from in
-    c.read-reading.ensures
-    ∙ ap (reading sheet_kind) (take_all (length input - from) (drop from input) (omega (arith, length-drop from input)))
+pub loop-left-init : goal.loop-left-init
+loop-left-init g c = record { count = omega arith; room = c.requires.room; carries = λ exit taken. taken }
 
-on : (c : After-put_reading-at) → PutHead (c.args.input.now) c.args.output.now c.put_reading-at.new.output (c.loop-from.from + c.read-reading.result.next) (c.loop-from.number + 1) c.put_reading-at.result
-on c =
-    let read_here : c.read-reading.result ≡ reading sheet_kind (drop c.loop-from.from (c.args.input.now)) = let input = c.args.input.now in
-    let from = c.loop-from.from in
-    c.read-reading.ensures
-    ∙ ap (reading sheet_kind) (take_all (length input - from) (drop from input) (omega (arith, length-drop from input))) in
-    put_on c.loop-from.invariant c.loop-from-test.true read_here c.put_reading-at.ensures
+pub put_joint-requires : goal.put_joint-requires
+put_joint-requires g c =
+    let lines = lines_read c.loop-left.number c.loop-left.left.now (some_left c.loop-left.left.now c.loop-left-test.ensures) c.in-Ok.reading c.in-Ok.ensures in
+    g.met.S.Sink.room_first _ _ _ (rw lines at c.loop-left.invariant.room)
 
-pub loop-from-init : goal.loop-from-init
-loop-from-init c = put_start _ _
+pub loop-left-smaller : goal.loop-left-smaller
+loop-left-smaller g c =
+    let left = c.loop-left.left.now in
+    let onward = next_onward left c.in-Ok.reading (some_left c.loop-left.left.now c.loop-left-test.ensures) c.in-Ok.ensures in
+    rw (left_after left c.in-Ok.reading.next) (omega (arith, onward.0, onward.1, length-drop c.in-Ok.reading.next left))
 
-pub put_reading-at-requires : goal.put_reading-at-requires
-put_reading-at-requires c =
-    let here = goal.at.put_reading-at-requires c in
-    put_room c.loop-from.invariant c.loop-from-test.true (read_here here.After-read-reading) c.requires.1
+pub loop-left-preserved : goal.loop-left-preserved
+loop-left-preserved g c =
+    let sink = g.met.S.Sink in
+    let head = c.loop-left.invariant in
+    let left = c.loop-left.left.now in
+    let read = c.in-Ok.reading in
+    let lines = lines_read c.loop-left.number left (some_left c.loop-left.left.now c.loop-left-test.ensures) read c.in-Ok.ensures in
+    let onward = next_onward left read (some_left c.loop-left.left.now c.loop-left-test.ensures) c.in-Ok.ensures in
+    subst (λ (rest : List ℕ).
+    WalkHead g.S.Sink.has_room g.S.Sink.takes c.args.sink.now c.args.input.now c.put_joint.new.sink (c.loop-left.number + 1) rest)
+    (sym (left_after left read.next))
+    (record {
+      count = omega (arith, head.count, onward.0, onward.1, length-drop read.next left);
+      room = sink.room_after _ _ _ _ c.put_joint.ensures (rw lines at head.room);
+      carries = λ exit taken. head.carries exit (rw lines (sink.takes_both _ _ _ _ _ c.put_joint.ensures taken));
+    })
 
-pub overflow_add-from : goal.overflow_add-from
-overflow_add-from c =
-    let here = goal.at.overflow_add-from c in
-    record { fits = omega (arith, (on here.After-put_reading-at).walk.within, c.requires.0) }
+pub put_read_refusal-requires : goal.put_read_refusal-requires
+put_read_refusal-requires g c =
+    let some = some_left c.loop-left.left.now c.loop-left-test.ensures in
+    let line = lines_refused c.loop-left.number c.loop-left.left.now some c.in-Err.refusal c.in-Err.ensures c.number.ensures in
+    rw line at c.loop-left.invariant.room
 
-pub overflow_add-number : goal.overflow_add-number
-overflow_add-number c =
-    let here = goal.at.overflow_add-number c in
-    record { fits = omega (arith, (on here.After-put_reading-at).walk.within, (on here.After-put_reading-at).walk.count, c.requires.0) }
-
-pub loop-from-smaller : goal.loop-from-smaller
-loop-from-smaller c =
-    let here = goal.at.loop-from-smaller c in
-    let onward : 0 < c.read-reading.result.next = walk_onward c.loop-from.invariant.walk c.loop-from-test.true (read_here here.After-read-reading) in
-    omega (arith, (on here.After-put_reading-at).walk.within, onward)
-
-pub loop-from-preserved : goal.loop-from-preserved
-loop-from-preserved c =
-    let here = goal.at.loop-from-preserved c in
-    (on here.After-put_reading-at)
-
-pub shape_of-output : goal.shape_of-output
-shape_of-output c = c.loop-from.invariant.holds
+pub returns-in-Err : goal.returns-in-Err
+returns-in-Err g c =
+    let some = some_left c.loop-left.left.now c.loop-left-test.ensures in
+    let line = lines_refused c.loop-left.number c.loop-left.left.now some c.in-Err.refusal c.in-Err.ensures c.number.ensures in
+    c.loop-left.invariant.carries _ (rw line c.put_read_refusal.ensures)
 
 pub returns : goal.returns
-returns c = put_done c.loop-from.invariant c.loop-from-test.false
+returns g c =
+    let none = no_lines_left c.loop-left.number c.loop-left.left.now c.loop-left-test.ensures in
+    c.loop-left.invariant.carries _ (rw none (g.met.S.Sink.takes_none c.loop-left.sink))

@@ -1,11 +1,10 @@
--- What each turn of a loop keeps, and why the loop or the recursion ends.
-use Prim.Native.Nat.{◌-◌}
+-- What each turn of the loop keeps, and why it ends: what is left gets shorter.
 use lib.ListN.{length}
-use Rattle.printer.proofs.Prints.{PutHead}
+use Rattle.printer.proofs.Prints.{WalkHead}
 use Rattle.printer.proofs.put_joints.Given as goal
 
-abbrev pub invariant-loop-from : goal.invariant-loop-from
-invariant-loop-from l = PutHead l.input l.initial.output l.output l.from l.number l.at
+abbrev pub invariant-loop-left : goal.invariant-loop-left
+invariant-loop-left g l = WalkHead g.S.Sink.has_room g.S.Sink.takes l.initial.sink l.fn.input l.sink l.number l.left
 
-abbrev pub decreases-loop-from : goal.decreases-loop-from
-decreases-loop-from l = length l.input - l.from
+abbrev pub decreases-loop-left : goal.decreases-loop-left
+decreases-loop-left g l = length l.left
