@@ -43,7 +43,8 @@ fn stored_field_count(kind: FileKind) -> usize
 // z of a joint whose file doesn't tell it.
 const UNTOLD_END_DISTANCE: u32 = 15000;
 
-// Why a joint can't be read: the bytes end within it, a number is in the wrong form, or a face's row count is none.
+// Why a joint can't be read: the bytes end within it, a number could be stored shorter or has more than 32 bits, or a face's row count isn't
+// 1 to 8.
 #[derive(Clone, Copy, PartialEq, Eq, Debug)]
 pub enum ReadRefusal {
     BytesEnd,
@@ -168,7 +169,7 @@ pub fn rest(bytes: &[u8], kind: FileKind) -> &[u8]
     }
 }
 
-// Why a joint's file can't be written: a face's row count is none, the buffer is too short, or a lever past the rows isn't 0.
+// Why a joint's file can't be written: a face's row count isn't 1 to 8, the buffer is too short, or a lever past the rows isn't 0.
 #[derive(Clone, Copy, PartialEq, Eq, Debug)]
 pub enum WriteRefusal {
     RowCount,
@@ -275,8 +276,8 @@ fn has_zero_spares(joint: Joint) -> bool
     true
 }
 
-// Writes the file of a joint whose row counts and spare levers are right. The levers are copied: where a part of a face's field is lent, the
-// whole face is, which takes longer.
+// Writes the file of a joint whose row counts and spare levers are right. The levers are copied first: lending a part of a face's field
+// copies the whole face, which was slower.
 fn write_parts(joint: Joint, buffer: &mut [u8]) -> Result<usize, WriteRefusal>
     requires { (rows_check joint).1 ≡ true }
     ensures { written_meaning result buffer.new ≡ writing_if_room (file New joint) buffer.old }

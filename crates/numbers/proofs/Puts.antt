@@ -1,16 +1,15 @@
 -- Putting stored forms: what is still to be put where each loop begins a turn, and that a turn carries it on or ends it.
 -- Assumes nothing.
 use Prim.Native.Nat.{ℕ, zero, suc, ◌+◌, ◌*◌, ◌/◌, ◌%◌, ◌^◌, ◌≤◌, ◌<◌}
-use mathlib.Core.Path.{◌≡◌, refl, sym, ap, ◌∙◌}
+use mathlib.Core.Path.{◌≡◌, refl, ap}
 use mathlib.Core.List.{List, [], ◌∷◌, ◌++◌}
-use mathlib.Core.Bool.{true, false, ◌&&◌}
+use mathlib.Core.Bool.{◌&&◌}
 use lib.Dec.{eqb}
 use native.Mathlib.Omega.{arith}
 use native.Mathlib.Numerals.{add-one}
 use native.Mathlib.Nat.{pow-suc}
-use borrow.Author.Tests.{ne_eqb}
-use lib.ListN.{length, get_or, drop, set, length-set, length-append, drop_of_length-le}
-use lib.Seq.{sets, drop-cons}
+use lib.ListN.{length, get_or, drop, length-append, drop_of_length-le}
+use lib.Seq.{drop-cons}
 use Rattle.std.specs.List.{list_all}
 use Rattle.buffers.specs.declared.Writer.{Writer}
 use Rattle.buffers.specs.Writing.{Puts, HasRoom}

@@ -2,11 +2,9 @@
 -- Assumes nothing.
 use mathlib.Core.Path.{◌≡◌, sym, ◌∙◌}
 use mathlib.Core.Bool.{true}
-use native.Mathlib.Omega.{arith}
 use Rattle.std.proofs.lemmas.Result.{err_from_is_err_and}
 use Rattle.arithmetic.specs.Range.{within}
 use Rattle.joint.specs.Ranges.{row_counts}
-use Rattle.jointfile.proofs.Faces.{row_count}
 use Rattle.jointfile.proofs.Answers.{part_stopped, part_refused, part_taken, part_others_stopped, lent_others, counted}
 use Rattle.jointfile.proofs.read_part.Goals as goal
 use Rattle.jointfile.proofs.read_part.Goals.{After-read_others}

@@ -1,5 +1,4 @@
 -- `number::put_number` meets its contract: the loop's head is `PutHead`, and the last group ends it. Assumes nothing.
-use native.Mathlib.Omega.{arith}
 use Rattle.numbers.proofs.Puts.{put_none, put_room, put_more, put_last}
 use Rattle.numbers.proofs.number.put_number.Goals as goal
 
