@@ -1,22 +1,18 @@
--- What field 1 says of the rows: marked counts are 17 to 24, and those less the mark are row counts. Assumes nothing.
+-- What field 1 says of the rows: marked counts are 17 to 24, and others are as stored. Assumes nothing.
 use mathlib.Core.Path.{◌≡◌, refl}
 use mathlib.Core.Bool.{Bool, true, false, and-eq-true_iff}
-use Prim.Native.Nat.{ℕ, ◌-◌, ◌≤◌}
+use Prim.Native.Nat.{ℕ, ◌≤◌}
 use native.Mathlib.Omega.{arith}
 use borrow.Author.Tests.{leb-true}
 use lib.Dec.{leb}
 use Rattle.arithmetic.specs.Range.{Within}
-use Rattle.joint.specs.Faces.{second_face_mark, marked_counts, two_faced, first_rows}
+use Rattle.joint.specs.Faces.{marked_counts, two_faced, first_rows}
 
 pub marked : (count : ℕ) → two_faced count ≡ true → Within marked_counts count
 unfolding two_faced
 marked count e =
     let both = (and-eq-true_iff (leb 17 count) (leb count 24)).0 e in
     record { low = leb-true 17 count both.0; high = leb-true count 24 both.1 }
-
-pub rows_marked : (count : ℕ) → two_faced count ≡ true → first_rows count ≡ count - second_face_mark
-unfolding first_rows
-rows_marked count e = rw e
 
 pub rows_as_stored : (count : ℕ) → two_faced count ≡ false → first_rows count ≡ count
 unfolding first_rows

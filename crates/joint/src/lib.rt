@@ -127,6 +127,7 @@ pub struct Joint {
 }
 
 // Whether field 1 says that a second face follows.
+#[tactic(auto, unfolding(crate::specs::Faces::two_faced))]
 pub fn is_two_faced(count: u32) -> bool
     ensures { result ≡ two_faced count }
 {
@@ -134,6 +135,7 @@ pub fn is_two_faced(count: u32) -> bool
 }
 
 // The rows of the first face by field 1.
+#[tactic(auto, unfolding(crate::specs::Faces::first_rows))]
 pub fn first_rows(count: u32) -> u32
     ensures { result ≡ first_rows count }
 {
@@ -145,6 +147,7 @@ pub fn first_rows(count: u32) -> u32
 }
 
 // The first face with its rows, not marked.
+#[tactic(auto, unfolding(crate::specs::Faces::first_face))]
 pub fn first_face(face: Face) -> Face
     ensures { result ≡ first_face face }
 {
