@@ -25,8 +25,7 @@ use Rattle.strength.specs.declared.SteelStrengths.{SteelStrengths}
 use Rattle.stubs.specs.Bending.{effective_edge, effective_length, bending}
 use Rattle.stubs.specs.Web.{web_tension}
 use Rattle.compression.specs.Compression.{web_buckling, reduced_near_end}
-use Rattle.outcome.specs.declared.PanelVerdict.{PanelVerdict}
-use Rattle.outcome.specs.declared.PanelVerdict.TheVariants.{NotAsked, Passes, Fails}
+use Rattle.outcome.specs.Outcome.{PanelVerdict, NotAsked, Passes, Fails}
 use Rattle.connection.specs.OneFace.{bolt_of}
 use Rattle.work.specs.Work.{worked}
 use Rattle.printer.specs.Sheet.{sheet_of}

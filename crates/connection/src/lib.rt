@@ -88,7 +88,7 @@ impl FaceAtWork {
             (checks_before 15 (refusals_after_10 panel_counts self.now.column self.now.bolt self.now.face)) }
         ensures admissible { OnOk result (Admissible self.now.column self.now.face) }
     {
-        let face = self.face;
+        let face = &self.face;
         let pitch = refusals::least_pitch(face.rows as usize, face.levers);
         if pitch < 1 {
             return Err(FaceRefusal::LeversDontFall);
@@ -96,7 +96,7 @@ impl FaceAtWork {
         if pitch < 25 * self.bolt.diameter {
             return Err(FaceRefusal::RowsTooClose);
         }
-        if !refusals::rows_in_place(face) {
+        if !refusals::rows_in_place(*face) {
             return Err(FaceRefusal::RowOutOfPlace);
         }
         if refusals::too_tight(face.extended, self.spacing) {
@@ -111,7 +111,7 @@ impl FaceAtWork {
     fn governing(&self, panel_counts: bool) -> CompressionCheck
         ensures { (result ≡ governing_of panel_counts self.now.column self.now.face) × (force_of result ≤ most_bearing) }
     {
-        let face = self.face;
+        let face = &self.face;
         let resistances = compression::resistances_of(
             self.steel,
             self.column,
@@ -168,7 +168,7 @@ impl FaceAtWork {
         requires { Tallied self.now.face forces tally }
         ensures { result ≡ verdicts_of self.now.column self.now.bolt self.now.face (take (rows_of self.now.face) forces) }
     {
-        let face = self.face;
+        let face = &self.face;
         let weld = strength::weld_strength(face.beam.grade, face.plate.grade);
         let idle = ((face.rows + face.shear_rows) as u64) - tally.pulling;
         Verdicts {
@@ -182,12 +182,12 @@ impl FaceAtWork {
                 face.loads.shear,
             ),
             flange_weld: verdicts::flange_weld(
-                face,
+                *face,
                 self.steel.beam,
                 weld,
                 verdicts::top_rows(face.extended, forces),
             ),
-            web_weld: verdicts::web_weld(face, weld),
+            web_weld: verdicts::web_weld(*face, weld),
         }
     }
 }

@@ -30,13 +30,12 @@ pub fn work_with(area: Option<u32>, joint: Joint) -> Result<Worked, JointRefusal
     ensures equals { outcome_meaning result ≡ worked_with area joint }
     ensures demand { OnOk result (Demand3With area joint (outcome_meaning result)) }
 {
-    let column = joint.column;
-    let bolts = joint.bolts;
     let face = joint.face;
     if joint::is_two_faced(face.rows) {
-        return work_faces(column, bolts, area, joint::first_face(face), joint.other);
+        let first = joint::first_face(face);
+        return work_faces(joint.column, joint.bolts, area, first, joint.other);
     }
-    let result = work_connection(true, column, bolts, area, face).map_err(
+    let result = work_connection(true, joint.column, joint.bolts, area, face).map_err(
         |refusal| JointRefusal {
             refusal,
             face: RefusedFace::Only,

@@ -16,7 +16,7 @@ returns-then-is_two_faced-clause-equals c =
     let both : two_faced c.args.joint.face.rows ≡ true = sym c.is_two_faced.ensures ∙ c.if-is_two_faced.true in
     let j = c.args.joint in
     let area = c.args.area in
-    c.work_faces.ensures.equals ∙ ap (λ (face : Face). worked_faces j.column j.bolts area face j.other) c.first_face.ensures
+    c.work_faces.ensures.equals ∙ ap (λ (face : Face). worked_faces j.column j.bolts area face j.other) c.first_face-first.ensures
     ∙ of_two area j both
 
 pub returns-in_err-result-clause-equals : goal.returns-in_err-result-clause-equals
