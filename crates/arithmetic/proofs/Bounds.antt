@@ -1,6 +1,6 @@
 -- Bounds on sums, products and quotients, put together as the figure itself is: where x is within one range and y within another,
 -- `x ⊗ y` bounds their product from both sides. `fits` then shows that a figure fits its width. Assumes nothing.
-use mathlib.Core.Path.{◌≡◌, refl, ◌∙◌, sym}
+use mathlib.Core.Path.{◌∙◌, sym}
 use Prim.Native.Nat.{ℕ, zero, suc, ◌+◌, ◌*◌, ◌/◌, ◌^◌, ◌≤◌, zero-le}
 use native.Mathlib.Nat.{le_refl, le_trans, le_of_eq, zero-lt-suc, mul-le-mul, add-le-add, div-zero, div-mul-le_self, le-div_iff_mul-le}
 use mathlib.Core.Bool.{Bool, true, false, cond, ◌&&◌}
@@ -48,11 +48,6 @@ pub within_yes : (range : Range) (x : ℕ) → T (within range x) → Within ran
 within_yes range x t =
     let halves = and_yes (leb range.low x) (leb x range.high) t in
     record { low = leb→le range.low x halves.0; high = leb→le x range.high halves.1 }
-
--- a range that goes by a test, asked at its ends
-pub within_either : (test : Bool) (a b c d x : ℕ) → within (cond test a c to cond test b d) x ≡ within (cond test (a to b) (c to d)) x
-within_either true a b c d x = refl
-within_either false a b c d x = refl
 
 -- from a bound above alone
 pub at_most : {x n : ℕ} → x ≤ n → Within (0 to n) x
