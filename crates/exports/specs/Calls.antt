@@ -1,5 +1,5 @@
 -- Each exported call: which slices are long enough, which refusal is answered, and what is put where. Assumes nothing.
-use Rattle.std.specs.Prelude.{ℕ, ◌≤◌, List, ◌≡◌, Bool, true, false, cond, ◌&&◌, leb, eqb, length, get_or, take, drop}
+use Rattle.std.specs.Prelude.{ℕ, List, ◌≡◌, Bool, true, false, cond, ◌&&◌, leb, eqb, length, get_or, take, drop}
 use Rattle.buffers.specs.Put.{at_front}
 use Rattle.bolttable.specs.Area.{area_of}
 use Rattle.bolttable.specs.Loading.{loaded, built_in}
@@ -8,11 +8,10 @@ use Rattle.joint.specs.Faces.{two_faced, first_face}
 use Rattle.joint.specs.declared.Face.{Face}
 use Rattle.joint.specs.declared.Joint.{Joint}
 use Rattle.allocation.specs.Allocation.{allocated}
-use Rattle.jointfile.specs.File.{reading}
+use Rattle.jointfile.specs.File.{Reading, reading}
 use Rattle.jointfile.specs.Write.{Writing, writing}
 use Rattle.jointfile.specs.declared.FileKind.{FileKind}
 use Rattle.jointfile.specs.declared.FileKind.TheVariants.{Old, New}
-use Rattle.jointfile.specs.declared.Reading.{Reading}
 use Rattle.connection.specs.OneFace.{bolt_of}
 use Rattle.connection.specs.Demand.{Demand3}
 use Rattle.work.specs.Work.{worked}
@@ -87,17 +86,6 @@ pub record Demand3OfWords (table : BoltTable) (joint : Joint) (words : List ℕ)
   pub one_face : two_faced joint.face.rows ≡ false → Demand3OfFace true table joint (first_face joint.face) words
   pub first_of_two : two_faced joint.face.rows ≡ true → Demand3OfFace false table joint (first_face joint.face) words
   pub second_of_two : two_faced joint.face.rows ≡ true → Demand3OfFace false table joint joint.other (drop face_word_count words)
-
--- A table's words, a joint's, and places for what it comes to: each enough.
-pub record EnoughWords (table fields words : List ℕ) : Type 0 where
-  pub of_table : table_word_count ≤ length table
-  pub of_joint : joint_word_count ≤ length fields
-  pub of_outcome : outcome_word_count ≤ length words
-
--- What working a joint's words answers and leaves, with demand 3 where it isn't refused.
-pub record WorkedInto (table fields entry exit : List ℕ) (answer : ℕ) : Type 0 where
-  pub equals : answers answer exit ≡ working_into table fields entry
-  pub demand : answer ≡ 0 → Demand3OfWords (table_of_words table) (joint_of_words fields) exit
 
 -- rule 13.1: 101 says that there is no room for all lines
 abbrev pub sheet_answer : (size : ℕ) → Printing → Answered BufferFront

@@ -9,20 +9,19 @@
 // The sheet's refusals are its lines: they are printed, `R 4` too, and answered 0.
 #![tactic(auto)]
 
-ghost use Rattle.std.specs.Prelude.{◌≡◌, false, get_or, take};
+ghost use Rattle.std.specs.Prelude.{◌≡◌, ◌≤◌, take};
 ghost use Rattle.jointfile.specs.File.{reading};
 ghost use Rattle.sharing.specs.Groups.{listed};
 ghost use Rattle.sharing.specs.Best.{Best};
-ghost use Rattle.joint.specs.Faces.{two_faced};
+ghost use Rattle.outcome.specs.Outcome.{number_of, field_of_refusal, face_number};
 ghost use Rattle.words.specs.Tables.{table_of_words};
-ghost use Rattle.words.specs.Words.{joint_of_words};
-ghost use Rattle.exports.specs.Answers.{answers};
+ghost use Rattle.words.specs.Words.{first_word_count, joint_of_words};
+ghost use Rattle.exports.specs.Answers.{answer_number, answers};
 ghost use Rattle.exports.specs.Calls.{allocating, kind_of, reading_into, writing_into, built_in_into, loading_into, working_into};
-ghost use Rattle.exports.specs.Calls.{Demand3OfWords, EnoughWords, WorkedInto, sheeting_into};
+ghost use Rattle.exports.specs.Calls.{Demand3OfWords, sheeting_into};
 
-use joint::is_two_faced;
-use jointfile::{FileKind, Written};
-use printer::Printed;
+use jointfile::FileKind;
+use outcome::JointRefusal;
 use words::joints::JOINT_WORDS;
 use words::results::OUTCOME_WORDS;
 use words::tables::TABLE_WORDS;
@@ -45,13 +44,13 @@ pub extern "C" fn jinqewan_allocate(count: usize, limits: &[u64], forces: &mut [
     if forces.len() < 8 {
         return SHORT;
     }
-    let allocation = allocation::allocate(count, limits);
-    if allocation.refusal != 0 {
-        return allocation.refusal;
+    match allocation::allocate(count, limits) {
+        Ok(eight) => {
+            forces[..8].copy_from_slice(&eight);
+            0
+        }
+        Err(refusal) => refusal.number(),
     }
-    let eight = allocation.forces;
-    words::put::put_eight_u64(forces, 0, eight);
-    0
 }
 
 // The kind of file that a number says.
@@ -79,13 +78,14 @@ pub extern "C" fn jinqewan_read(
     if fields.len() < JOINT_WORDS {
         return SHORT;
     }
-    let reading = jointfile::read(bytes, kind_of(kind));
-    if reading.refusal != 0 {
-        return reading.refusal;
+    match jointfile::read(bytes, kind_of(kind)) {
+        Ok(reading) => {
+            words::joints::put_joint(reading.joint, fields);
+            *next = reading.next;
+            0
+        }
+        Err(unread) => unread.number(),
     }
-    words::joints::put_joint(reading.joint, fields);
-    *next = reading.next;
-    0
 }
 
 // Rest: the place where the part after the first joint begins, the end when it can't be read.
@@ -93,8 +93,10 @@ pub extern "C" fn jinqewan_read(
 pub extern "C" fn jinqewan_rest(bytes: &[u8], kind: u32) -> usize
     ensures { result ≡ (reading (kind_of kind) bytes.now).next }
 {
-    let left = jointfile::rest(bytes, kind_of(kind));
-    bytes.len() - left.len()
+    match jointfile::read(bytes, kind_of(kind)) {
+        Ok(reading) => reading.next,
+        Err(_) => bytes.len(),
+    }
 }
 
 // Write: the file goes to the buffer's front and its length to `length`.
@@ -106,13 +108,12 @@ pub extern "C" fn jinqewan_write(fields: &[u32], buffer: &mut [u8], length: &mut
     if fields.len() < JOINT_WORDS {
         return SHORT;
     }
-    let written = jointfile::write(words::joints::joint_of(fields), buffer);
-    match written {
-        Written::Length(size) => {
+    match jointfile::write(words::joints::joint_of(fields), buffer) {
+        Ok(size) => {
             *length = size;
             0
         }
-        Written::Refused(number) => number,
+        Err(unwritten) => unwritten.number(),
     }
 }
 
@@ -124,7 +125,7 @@ pub extern "C" fn jinqewan_built_in(table: &mut [u32]) -> u32
     if table.len() < TABLE_WORDS {
         return SHORT;
     }
-    words::tables::put_table(bolttable::built_in(), table);
+    words::tables::put_table(&bolttable::built_in(), table);
     0
 }
 
@@ -133,52 +134,26 @@ pub extern "C" fn jinqewan_built_in(table: &mut [u32]) -> u32
 pub extern "C" fn jinqewan_load(table: &[u32], in_force: &mut [u32]) -> u32
     ensures { answers result in_force.new ≡ loading_into table.now in_force.old }
 {
-    if table.len() < TABLE_WORDS {
+    if table.len() < TABLE_WORDS || in_force.len() < TABLE_WORDS {
         return SHORT;
     }
-    if in_force.len() < TABLE_WORDS {
-        return SHORT;
+    let mut held = words::tables::table_of(in_force);
+    match bolttable::load(&mut held, words::tables::table_of(table)) {
+        Ok(()) => {
+            words::tables::put_table(&held, in_force);
+            0
+        }
+        Err(not_taken) => not_taken.number(),
     }
-    let before = words::tables::table_of(in_force);
-    let loading = bolttable::load(before, words::tables::table_of(table));
-    if loading.refusal != 0 {
-        return loading.refusal;
-    }
-    words::tables::put_table(loading.table, in_force);
-    0
 }
 
-// Works a joint with two faces, with the bolt table in force, where all words and places are enough.
-fn work_two_faces(table: &[u32], fields: &[u32], res: &mut [u64]) -> u32
-    requires { EnoughWords table.now fields.now res.old }
-    ensures { WorkedInto table.now fields.now res.old res.new result }
+// A refusal of Work in its parts.
+fn answer_of(refused: JointRefusal) -> u32
+    requires { field_of_refusal refused.refusal ≤ first_word_count }
+    ensures { result
+        ≡ answer_number (number_of refused.refusal) (field_of_refusal refused.refusal) (face_number refused.face) }
 {
-    let joint = words::joints::joint_of(fields);
-    let area = words::tables::area_of(table, joint.bolts.diameter);
-    let worked = work::work_with(area, joint);
-    let refusal = worked.refusal;
-    if refusal.number != 0 {
-        return refusal.number + 256 * refusal.field + 65536 * refusal.face;
-    }
-    words::results::put_outcome(worked, res);
-    0
-}
-
-// The same of a joint with one face. Nothing of a second face is made of its words.
-fn work_one_face(table: &[u32], fields: &[u32], res: &mut [u64]) -> u32
-    requires { EnoughWords table.now fields.now res.old × (two_faced (get_or fields.now 0 0) ≡ false) }
-    ensures { WorkedInto table.now fields.now res.old res.new result }
-{
-    let joint = words::joints::one_faced_of(fields);
-    let face = joint.face;
-    let area = words::tables::area_of(table, joint.bolts.diameter);
-    let worked = connection::work_connection(true, joint.column, joint.bolts, area, face);
-    if worked.number != 0 {
-        return worked.number + 256 * worked.field;
-    }
-    let of_face = worked.result;
-    words::results::put_one_face(of_face, res);
-    0
+    refused.number() + 256 * refused.field() + 65536 * refused.face()
 }
 
 // Work, with the bolt table in force: the result's words go to the first places, and its forces are the best there are: demand 3.
@@ -189,19 +164,18 @@ pub extern "C" fn jinqewan_work(table: &[u32], fields: &[u32], res: &mut [u64]) 
     ensures demand { result ≡ 0
         → Demand3OfWords (table_of_words table.now) (joint_of_words fields.now) res.new }
 {
-    if table.len() < TABLE_WORDS {
+    if table.len() < TABLE_WORDS || fields.len() < JOINT_WORDS || res.len() < OUTCOME_WORDS {
         return SHORT;
     }
-    if fields.len() < JOINT_WORDS {
-        return SHORT;
+    let joint = words::joints::joint_of(fields);
+    let area = words::tables::area_of(table, joint.bolts.diameter);
+    match work::work_with(area, joint) {
+        Ok(worked) => {
+            words::results::put_outcome(&worked, res);
+            0
+        }
+        Err(refused) => answer_of(refused),
     }
-    if res.len() < OUTCOME_WORDS {
-        return SHORT;
-    }
-    if is_two_faced(fields[0]) {
-        return work_two_faces(table, fields, res);
-    }
-    work_one_face(table, fields, res)
 }
 
 // Sheet: the lines go to the output's front and their length to `length`.
@@ -210,12 +184,11 @@ pub extern "C" fn jinqewan_sheet(input: &[u8], output: &mut [u8], length: &mut u
     ensures { answers result (record { bytes = output.new; size = length.new })
         ≡ sheeting_into input.now output.old length.old }
 {
-    let printed = printer::sheet(input, output);
-    match printed {
-        Printed::Length(total) => {
+    match printer::sheet(input, output) {
+        Ok(total) => {
             *length = total;
             0
         }
-        Printed::NoRoom => NO_ROOM,
+        Err(_) => NO_ROOM,
     }
 }

@@ -1,7 +1,7 @@
 // What a joint comes to, as words: those of its first face, those of its second, and the panel's.
 ghost use Rattle.std.specs.Prelude.{◌≡◌, ◌≤◌, length};
 ghost use Rattle.buffers.specs.Put.{at_front};
-ghost use Rattle.outcome.specs.Outcome.{outcome_meaning};
+ghost use Rattle.outcome.specs.Outcome.{outcome_meaning, second_result};
 ghost use Rattle.words.specs.Results.{face_word_count, outcome_word_count, check_number, figure_words, result_words};
 ghost use Rattle.words.specs.Results.{outcome_words};
 
@@ -47,16 +47,19 @@ fn figures_of(of_face: &FaceResult) -> [u64; FIGURE_WORDS]
 // Puts the words of a face over as many.
 fn put_result(of_face: &FaceResult, words: &mut [u64])
     requires { length words.old ≡ face_word_count }
-    ensures { words.new ≡ result_words of_face.now }
+    ensures forces_len { length of_face.now.forces ≡ 8 }
+    ensures words_after { words.new ≡ result_words of_face.now }
 {
     words[..8].copy_from_slice(&of_face.forces);
     words[8..FACE_WORDS].copy_from_slice(&figures_of(of_face));
 }
 
-// Puts the words of what a joint comes to at the front of a slice: where there is no second face, 0 for it and for the panel.
+// Puts the words of what a joint comes to at the front of a slice: where there is no second face, 0 for it and for the panel. How many
+// forces a face has is promised, since of an array within an Option a caller isn't told.
 pub fn put_outcome(worked: &Worked, words: &mut [u64])
     requires { outcome_word_count ≤ length words.old }
-    ensures { words.new ≡ at_front (outcome_words (outcome_meaning (Ok worked.now))) words.old }
+    ensures forces_len { (length worked.now.result.forces ≡ 8) × (length (second_result worked.now.second).forces ≡ 8) }
+    ensures words_after { words.new ≡ at_front (outcome_words (outcome_meaning (Ok worked.now))) words.old }
 {
     put_result(&worked.result, &mut words[..FACE_WORDS]);
     match &worked.second {
