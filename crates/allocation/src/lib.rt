@@ -18,21 +18,17 @@ const MOST: u64 = 4_000_000_000;
 #[derive(Clone, Copy, PartialEq, Eq, Debug)]
 pub enum LimitsRefusal {
     // no row, or more than eight
-    RowCount,
+    RowCount = 3,
     // fewer than the groups
-    TooFewLimits,
-    LimitTooLarge,
+    TooFewLimits = 7,
+    LimitTooLarge = 8,
 }
 
 impl LimitsRefusal {
     pub fn number(self) -> u32
         ensures { result ≡ number_of self }
     {
-        match self {
-            LimitsRefusal::RowCount => 3,
-            LimitsRefusal::TooFewLimits => 7,
-            LimitsRefusal::LimitTooLarge => 8,
-        }
+        self as u32
     }
 }
 

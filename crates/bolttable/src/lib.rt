@@ -29,20 +29,16 @@ pub struct BoltTable {
 #[derive(Clone, Copy, PartialEq, Eq, Debug)]
 pub enum TableRefusal {
     // the count, or a number of a size that it counts
-    OutOfRange,
-    DiametersDontRise,
-    AreaTooLarge,
+    OutOfRange = 16,
+    DiametersDontRise = 17,
+    AreaTooLarge = 18,
 }
 
 impl TableRefusal {
     pub fn number(self) -> u32
         ensures { result ≡ number_of self }
     {
-        match self {
-            TableRefusal::OutOfRange => 16,
-            TableRefusal::DiametersDontRise => 17,
-            TableRefusal::AreaTooLarge => 18,
-        }
+        self as u32
     }
 }
 

@@ -47,20 +47,16 @@ const UNTOLD_END_DISTANCE: u32 = 15000;
 // 1 to 8.
 #[derive(Clone, Copy, PartialEq, Eq, Debug)]
 pub enum ReadRefusal {
-    BytesEnd,
-    WrongForm,
-    RowCount,
+    BytesEnd = 1,
+    WrongForm = 2,
+    RowCount = 3,
 }
 
 impl ReadRefusal {
     pub fn number(self) -> u32
         ensures { result ≡ read_refusal self }
     {
-        match self {
-            ReadRefusal::BytesEnd => 1,
-            ReadRefusal::WrongForm => 2,
-            ReadRefusal::RowCount => 3,
-        }
+        self as u32
     }
 }
 
@@ -172,20 +168,16 @@ pub fn rest(bytes: &[u8], kind: FileKind) -> &[u8]
 // Why a joint's file can't be written: a face's row count isn't 1 to 8, the buffer is too short, or a lever past the rows isn't 0.
 #[derive(Clone, Copy, PartialEq, Eq, Debug)]
 pub enum WriteRefusal {
-    RowCount,
-    NoRoom,
-    SpareLever,
+    RowCount = 3,
+    NoRoom = 5,
+    SpareLever = 6,
 }
 
 impl WriteRefusal {
     pub fn number(self) -> u32
         ensures { result ≡ write_refusal self }
     {
-        match self {
-            WriteRefusal::RowCount => 3,
-            WriteRefusal::NoRoom => 5,
-            WriteRefusal::SpareLever => 6,
-        }
+        self as u32
     }
 }
 

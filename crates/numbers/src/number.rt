@@ -2,7 +2,7 @@
 ghost use Rattle.std.specs.Prelude.{◌≡◌, length};
 ghost use Rattle.buffers.specs.Writing.{Puts, HasRoom};
 ghost use Rattle.numbers.specs.Number.{stored};
-ghost use Rattle.numbers.specs.Answers.{NumberRead, number_of};
+ghost use Rattle.numbers.specs.Answers.{NumberRead};
 
 use buffers::Writer;
 
@@ -11,17 +11,6 @@ use buffers::Writer;
 pub enum NumberRefusal {
     BytesEnd,
     WrongForm,
-}
-
-impl NumberRefusal {
-    pub fn number(self) -> u32
-        ensures { result ≡ number_of self }
-    {
-        match self {
-            NumberRefusal::BytesEnd => 1,
-            NumberRefusal::WrongForm => 2,
-        }
-    }
 }
 
 // A number that was read, and the place after its last byte.

@@ -84,9 +84,9 @@ impl From<OutOfRange> for FaceRefusal {
 // Which of a joint's faces is refused: its only one, or one of two.
 #[derive(Clone, Copy, PartialEq, Eq, Debug)]
 pub enum RefusedFace {
-    Only,
-    First,
-    Second,
+    Only = 0,
+    First = 1,
+    Second = 2,
 }
 
 // What a joint is refused for.
@@ -114,11 +114,7 @@ impl JointRefusal {
     pub fn face(self) -> u32
         ensures { result ≡ face_number self.face }
     {
-        match self.face {
-            RefusedFace::Only => 0,
-            RefusedFace::First => 1,
-            RefusedFace::Second => 2,
-        }
+        self.face as u32
     }
 }
 
