@@ -118,7 +118,7 @@ pub fn bolt_strengths(bolts: Bolts, area: u32) -> BoltStrengths
     }
 }
 
-#[tactic(auto, unfolding(crate::specs::Bolt::bolt_tension, crate::specs::Bolt::bolt_shear, crate::specs::Bolt::bolt_bearing, crate::specs::Bolt::bolt_ultimate,))]
+#[tactic(auto, unfolding(crate::specs::Bolt::bolt_tension, crate::specs::Bolt::bolt_shear, crate::specs::Bolt::bolt_bearing, crate::specs::Bolt::bolt_ultimate))]
 fn class_strengths(class: u32) -> ClassStrengths
     ensures { result ≡ class_strengths class }
 {

@@ -9,8 +9,6 @@ ghost use Rattle.stubs.specs.Worked.{stub_of, lengths_of, length_by, bending_by,
 ghost use Rattle.stubs.specs.InRange.{bolt_distances, edge_distances};
 ghost use Rattle.stubs.specs.InRange.{StubParts, PatternParts, BendingParts, ExtensionParts, WebTensionParts};
 
-use arithmetic::least;
-
 // The column flange or the end plate as a T-stub: what of its bending is the same for every group.
 #[derive(Clone, Copy)]
 pub struct Stub {
@@ -33,28 +31,44 @@ pub struct Lengths {
     pub side: u64,
 }
 
-// The T-stub of a flange or plate, from m, the edge distance that n' is at most, thickness, strength and W.
-pub fn stub_of(m: u64, edge: u64, thickness: u32, strength: u64, pair: u64) -> Stub
-    requires { StubParts m edge thickness strength pair }
-    ensures { result ≡ stub_of m (min edge (5 * m / 4)) thickness strength pair }
-{
-    let effective = least(edge, 5 * m / 4);
-    let t = thickness as u64;
-    Stub {
-        flexure: t * t * strength,
-        yielding: 100 * m,
-        prying: 200 * effective * pair,
-        breaking: 200 * (m + effective),
+impl Stub {
+    // The T-stub of a flange or plate, from m, the edge distance that n' is at most, thickness, strength and W.
+    pub fn new(m: u64, edge: u64, thickness: u32, strength: u64, pair: u64) -> Stub
+        requires { StubParts m edge thickness strength pair }
+        ensures { result ≡ stub_of m (min edge (5 * m / 4)) thickness strength pair }
+    {
+        let effective = edge.min(5 * m / 4);
+        let t = thickness as u64;
+        Stub {
+            flexure: t * t * strength,
+            yielding: 100 * m,
+            prying: 200 * effective * pair,
+            breaking: 200 * (m + effective),
+        }
+    }
+
+    // The least of the three modes, for some rows and an effective length.
+    #[tactic(auto, unfolding(crate::specs::Worked::bending_by))]
+    pub fn bending(self, pair: u64, rows: u64, length: u64) -> u64
+        requires { BendingParts self pair rows length }
+        ensures { result ≡ bending_by self pair rows length }
+    {
+        let flexure = length * self.flexure;
+        let mode1 = flexure / self.yielding;
+        let mode2 = (flexure + rows * self.prying) / self.breaking;
+        mode1.min(mode2).min(rows * pair)
     }
 }
 
-pub fn lengths_of(m: u64, edge: u64) -> Lengths
-    requires { Within bolt_distances m × Within edge_distances edge }
-    ensures { result ≡ lengths_of m edge }
-{
-    Lengths {
-        circular: 6283 * m / 1000,
-        side: 4 * m + 5 * edge / 4,
+impl Lengths {
+    pub fn new(m: u64, edge: u64) -> Lengths
+        requires { Within bolt_distances m × Within edge_distances edge }
+        ensures { result ≡ lengths_of m edge }
+    {
+        Lengths {
+            circular: 6283 * m / 1000,
+            side: 4 * m + 5 * edge / 4,
+        }
     }
 }
 
@@ -63,21 +77,11 @@ pub fn effective_length(circular: u64, side: u64, rise: u64) -> u64
     requires { PatternParts circular side rise }
     ensures { result ≡ length_by circular side rise }
 {
-    least(circular + 20 * rise, side + 10 * rise)
-}
-
-// The least of the three modes of a T-stub, for some rows and an effective length.
-pub fn bending(stub: Stub, pair: u64, rows: u64, length: u64) -> u64
-    requires { BendingParts stub pair rows length }
-    ensures { result ≡ bending_by stub pair rows length }
-{
-    let flexure = length * stub.flexure;
-    let mode1 = flexure / stub.yielding;
-    let mode2 = (flexure + rows * stub.prying) / stub.breaking;
-    least(least(mode1, mode2), rows * pair)
+    (circular + 20 * rise).min(side + 10 * rise)
 }
 
 // The least of seven patterns about the extension row.
+#[tactic(auto, unfolding(crate::specs::Bending::extension_length))]
 pub fn extension_length(m: u64, edge: u32, plate_edge: u64, gauge: u32, width: u32) -> u64
     requires { ExtensionParts m edge plate_edge gauge width }
     ensures { result ≡ extension_length m edge plate_edge gauge width }
@@ -86,15 +90,13 @@ pub fn extension_length(m: u64, edge: u32, plate_edge: u64, gauge: u32, width: u
     let end = 10 * (edge as u64);
     let g = gauge as u64;
     let half_end = 2 * m + 5 * end / 8;
-    let circles = least(
-        least(6283 * m / 1000, half_circle + 10 * g),
-        half_circle + 2 * plate_edge,
-    );
-    let ends = least(
-        least(least(circles, 4 * m + 5 * end / 4), half_end + plate_edge),
-        half_end + 5 * g,
-    );
-    least(ends, 5 * (width as u64))
+    (6283 * m / 1000)
+        .min(half_circle + 10 * g)
+        .min(half_circle + 2 * plate_edge)
+        .min(4 * m + 5 * end / 4)
+        .min(half_end + plate_edge)
+        .min(half_end + 5 * g)
+        .min(5 * (width as u64))
 }
 
 // A web's tension: 173g, the rise, and the web's thickness times its strength.

@@ -146,8 +146,8 @@ module _ (face : Face) (mx e yp W : ℕ) (x : ExtensionFigures face mx e yp W) w
           high = omega (arith, x.distance, lever_most face x.face 0, x.face.beam.flange.high);
         }
 
-    pub extension_parts : (end : ℕ) → end ≡ face.layout.edge * 10 → StubParts mx end face.plate.thickness yp W
-    extension_parts end ee =
+    pub extension_parts : StubParts mx (10 * face.layout.edge) face.plate.thickness yp W
+    extension_parts =
         record {
           distance = distance_range;
           edge_most = omega (arith, edge_field_le);

@@ -3,7 +3,7 @@
 use mathlib.Core.Path.{◌≡◌, refl, ap, ◌∙◌}
 use mathlib.Core.Bool.{Bool, true, false, cond}
 use Prim.Native.Nat.{ℕ, ◌*◌, ◌/◌, ◌≤◌, min}
-use native.Mathlib.Nat.{mul_comm, mul-le-mul, le_trans, le_refl, min-le_left, min-le_right}
+use native.Mathlib.Nat.{mul-le-mul, le_trans, le_refl, min-le_left, min-le_right}
 use native.Mathlib.Omega.{arith}
 use mathlib.Core.List.{[], ◌∷◌, ◌++◌}
 use lib.Dec.{ltb, eqb}
@@ -104,13 +104,12 @@ module _ (column : Column) (face : Face) (spacing : Spacing) (steel : SteelStren
 
 -- the extension row's limit, from its stub and its length
 module _ (face : Face) (mx e yp W : ℕ) (x : ExtensionFigures face mx e yp W) where
-  pub extension_worked : (end length limit : ℕ) (stub : Stub) → end ≡ face.layout.edge * 10
-      → stub ≡ stub_of mx (min end (5 * mx / 4)) face.plate.thickness yp W
+  pub extension_worked : (length limit : ℕ) (stub : Stub) → stub ≡ stub_of mx (min (10 * face.layout.edge) (5 * mx / 4)) face.plate.thickness yp W
       → length ≡ extension_length mx face.layout.edge e face.layout.gauge face.plate.width
       → limit ≡ bending_by stub W 1 length → limit ≡ extension_bending face W
   unfolding extension_bending
-  extension_worked end length limit stub ee es el limit_is =
-      rw (limit_is, es, el, ee, mul_comm face.layout.edge 10, x.distance, x.edge, x.strength)
+  extension_worked length limit stub es el limit_is =
+      rw (limit_is, es, el, x.distance, x.edge, x.strength)
       (bending-worked _ _ _ _ _ _ _)
 
 -- A limit is at most the bolts' own.

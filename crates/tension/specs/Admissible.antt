@@ -9,7 +9,7 @@ use Rattle.joint.specs.declared.Face.{Face}
 use Rattle.strength.specs.Steel.{steel_strength, steel_strengths}
 use Rattle.strength.specs.InRange.{most_pair_tension}
 use Rattle.strength.specs.declared.SteelStrengths.{SteelStrengths}
-use Rattle.sharing.specs.Groups.{Table, group_count, listed, most_limit}
+use Rattle.sharing.specs.Groups.{Table, groups_above, place_of, group_count, listed, most_limit}
 use Rattle.spacing.specs.Spacing.{least_distance, least_edge, column_m, plate_m, column_edge, plate_edge, extension_m, spacing_of}
 use Rattle.spacing.specs.declared.Spacing.{Spacing}
 use Rattle.tension.specs.InRange.{DimensionsWithin}
@@ -40,10 +40,9 @@ pub record FiguresGiven (c : Column) (f : Face) (spacing : Spacing) (steel : Ste
   pub pair : Within (0 to most_pair_tension) W
 
 -- All that filling a lent table with the face's limits asks.
-pub record LimitsAsked (c : Column) (f : Face) (spacing : Spacing) (steel : SteelStrengths) (W : ℕ) (table : List ℕ) : Type 0 where
+pub record LimitsAsked (c : Column) (f : Face) (spacing : Spacing) (steel : SteelStrengths) (W : ℕ) : Type 0 where
   pub admissible : Admissible c f
   pub figures : FiguresGiven c f spacing steel W
-  pub size : length table ≡ table_places
 
 -- What the extension row's limit is worked from: mx, the plate's e, yp and W.
 pub record ExtensionFigures (f : Face) (mx e yp W : ℕ) : Type 0 where
@@ -62,10 +61,22 @@ pub record Levers (n : ℕ) (levers : List ℕ) : Type 0 where
   pub high : (i : ℕ) → i < n → get_or levers i 0 ≤ most_lever
 
 -- All that filling it asks once the dimensions are worked.
-pub record FillAsked (d : Dimensions) (n : ℕ) (h table : List ℕ) : Type 0 where
+pub record FillAsked (d : Dimensions) (n : ℕ) (h : List ℕ) : Type 0 where
   pub dimensions : DimensionsWithin d
   pub levers : Levers n h
+
+-- And for the groups that begin at one row: where their limits stand.
+pub record RowAsked (d : Dimensions) (n : ℕ) (h : List ℕ) (row first : ℕ) : Type 0 where
+  pub all : FillAsked d n h
+  pub inside : row < n
+  pub place : first ≡ groups_above n row
+
+-- How a lent table stands when the limits up to a place are there: no other place has changed.
+pub record FilledTo (n : ℕ) (limit : Table) (entry : List ℕ) (next : ℕ) (table : List ℕ) : Type 0 where
   pub size : length table ≡ table_places
+  pub agrees : (i j : ℕ) → i ≤ j → j < n → place_of n i j < next → get_or table (place_of n i j) 0 ≡ limit i j
+  pub bounded : (k : ℕ) → k < next → get_or table k 0 ≤ most_limit
+  pub untouched : (k : ℕ) → next ≤ k → get_or table k 0 ≡ get_or entry k 0
 
 -- What stands in a lent table once every group of n rows has its limit there, in Allocate's order.
 pub record TableFilled (n : ℕ) (limit : Table) (entry exit : List ℕ) : Type 0 where

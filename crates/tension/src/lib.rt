@@ -2,22 +2,19 @@
 // Lengths are in hundredths of a millimetre. Work calls these for joints that refusals 10, 11 and 13 let pass.
 #![tactic(auto)]
 
-ghost use Rattle.std.specs.Prelude.{◌≡◌, ◌*◌, ◌≤◌, cond, eqb};
+ghost use Rattle.std.specs.Prelude.{◌≡◌, ℕ, ◌+◌, ◌-◌, List, cond, eqb};
 ghost use Rattle.arithmetic.specs.Range.{Within};
-ghost use Rattle.joint.specs.Ranges.{gauges};
-ghost use Rattle.stubs.specs.InRange.{bolt_distances, rises};
+ghost use Rattle.stubs.specs.InRange.{rises};
 ghost use Rattle.tension.specs.Limits.{extension_bending, group_limit};
-ghost use Rattle.tension.specs.Admissible.{Admissible, FiguresGiven, LimitsAsked, ExtensionFigures, FillAsked, TableFilled};
+ghost use Rattle.tension.specs.Admissible.{Admissible, FiguresGiven, LimitsAsked, ExtensionFigures};
+ghost use Rattle.tension.specs.Admissible.{FillAsked, RowAsked, FilledTo, TableFilled};
 ghost use Rattle.tension.specs.Dimensions.{column_by, plate_side_by, plate_by, webs_by, limit_by, limits_by, dimensions_of};
 ghost use Rattle.tension.specs.InRange.{DimensionsWithin, GroupInRange};
 
-use arithmetic::least;
 use joint::{Column, Face};
 use spacing::Spacing;
 use strength::SteelStrengths;
-use stubs::{
-    Lengths, Stub, bending, effective_length, extension_length, lengths_of, stub_of, web_tension,
-};
+use stubs::{Lengths, Stub, effective_length, extension_length, web_tension};
 
 // What is the same for all groups of a face.
 #[derive(Clone, Copy)]
@@ -41,72 +38,136 @@ pub struct Dimensions {
     pub first: usize,
 }
 
-// A field, of 32 bits, times a figure of 64.
-fn times(a: u32, b: u64) -> u64
-    requires { (a ≤ gauges.high) × (b ≤ bolt_distances.high) }
-    ensures { result ≡ a * b }
-{
-    (a as u64) * b
-}
-
-// The bending limit of a group's column flange.
-fn column_limit(d: Dimensions, rows: u64, rise: u64) -> u64
-    requires { GroupInRange d rows rise }
-    ensures { result ≡ column_by d rows rise }
-{
-    let lengths = d.column_lengths;
-    let length = effective_length(lengths.circular, lengths.side, rise);
-    bending(d.column, d.pair, rows, length)
-}
-
-// The plate's side yielding for a group that begins at a row.
-fn plate_side(d: Dimensions, row: usize) -> u64
-    ensures { result ≡ plate_side_by d row }
-{
-    if row == d.first {
-        d.near_flange
-    } else {
-        d.plate_lengths.side
-    }
-}
-
-// A limit with the end plate's, where there is one.
-fn with_plate(d: Dimensions, row: usize, rows: u64, rise: u64, limit: u64) -> u64
-    requires { GroupInRange d rows rise }
-    ensures { result ≡ plate_by d row rows rise limit }
-{
-    if row < d.first {
-        if rows == 1 {
-            return least(limit, d.extension_limit);
+impl Dimensions {
+    // What of the limits is the same for every group.
+    fn new(
+        column: Column,
+        face: Face,
+        spacing: Spacing,
+        steel: SteelStrengths,
+        pair: u64,
+    ) -> Dimensions
+        requires { Admissible column face × FiguresGiven column face spacing steel pair }
+        ensures { result ≡ dimensions_of column face pair }
+    {
+        let edge = spacing.column_edge.min(spacing.plate_edge);
+        Dimensions {
+            column: Stub::new(spacing.column, edge, column.flange, steel.column, pair),
+            plate: Stub::new(spacing.plate, edge, face.plate.thickness, steel.plate, pair),
+            column_lengths: Lengths::new(spacing.column, spacing.column_edge),
+            plate_lengths: Lengths::new(spacing.plate, spacing.plate_edge),
+            near_flange: (face.layout.alpha as u64) * spacing.plate / 100,
+            extension_limit: extension_limit(
+                face,
+                spacing.extension,
+                spacing.plate_edge,
+                steel.plate,
+                pair,
+            ),
+            web_length: 173 * (face.layout.gauge as u64),
+            column_web: (column.web as u64) * steel.column,
+            beam_web: (face.beam.web as u64) * steel.beam,
+            pair,
+            first: face.extended as usize,
         }
-        return limit;
     }
-    let circular = d.plate_lengths.circular;
-    let length = effective_length(circular, plate_side(d, row), rise);
-    least(limit, bending(d.plate, d.pair, rows, length))
-}
 
-// A limit with the webs'.
-fn with_webs(d: Dimensions, row: usize, rise: u64, limit: u64) -> u64
-    requires { DimensionsWithin d × Within rises rise }
-    ensures { result ≡ webs_by d row rise limit }
-{
-    let web = least(limit, web_tension(d.web_length, rise, d.column_web));
-    if d.first < row {
-        least(web, web_tension(d.web_length, rise, d.beam_web))
-    } else {
-        web
+    // The bending limit of a group's column flange.
+    #[tactic(auto, unfolding(crate::specs::Dimensions::column_by))]
+    fn column_limit(&self, rows: u64, rise: u64) -> u64
+        requires { GroupInRange self.now rows rise }
+        ensures { result ≡ column_by self.now rows rise }
+    {
+        let lengths = self.column_lengths;
+        let length = effective_length(lengths.circular, lengths.side, rise);
+        self.column.bending(self.pair, rows, length)
     }
-}
 
-// The limit of the group of so many rows from a row on.
-fn group_limit(d: Dimensions, row: usize, rows: u64, rise: u64) -> u64
-    requires { GroupInRange d rows rise }
-    ensures { result ≡ limit_by d row rows rise }
-{
-    let flange = column_limit(d, rows, rise);
-    let plate = with_plate(d, row, rows, rise, flange);
-    with_webs(d, row, rise, plate)
+    // The plate's side yielding for a group that begins at a row.
+    fn plate_side(&self, row: usize) -> u64
+        ensures { result ≡ plate_side_by self.now row }
+    {
+        if row == self.first {
+            self.near_flange
+        } else {
+            self.plate_lengths.side
+        }
+    }
+
+    // A limit with the end plate's, where there is one.
+    #[tactic(auto, unfolding(crate::specs::Dimensions::plate_by))]
+    fn with_plate(&self, row: usize, rows: u64, rise: u64, limit: u64) -> u64
+        requires { GroupInRange self.now rows rise }
+        ensures { result ≡ plate_by self.now row rows rise limit }
+    {
+        if row < self.first {
+            if rows == 1 {
+                return limit.min(self.extension_limit);
+            }
+            return limit;
+        }
+        let circular = self.plate_lengths.circular;
+        let length = effective_length(circular, self.plate_side(row), rise);
+        limit.min(self.plate.bending(self.pair, rows, length))
+    }
+
+    // A limit with the webs'.
+    #[tactic(auto, unfolding(crate::specs::Dimensions::webs_by))]
+    fn with_webs(&self, row: usize, rise: u64, limit: u64) -> u64
+        requires { DimensionsWithin self.now × Within rises rise }
+        ensures { result ≡ webs_by self.now row rise limit }
+    {
+        let web = limit.min(web_tension(self.web_length, rise, self.column_web));
+        if self.first < row {
+            web.min(web_tension(self.web_length, rise, self.beam_web))
+        } else {
+            web
+        }
+    }
+
+    // The limit of the group of so many rows from a row on.
+    #[tactic(auto, unfolding(crate::specs::Dimensions::limit_by))]
+    fn group_limit(&self, row: usize, rows: u64, rise: u64) -> u64
+        requires { GroupInRange self.now rows rise }
+        ensures { result ≡ limit_by self.now row rows rise }
+    {
+        let flange = self.column_limit(rows, rise);
+        let plate = self.with_plate(row, rows, rise, flange);
+        self.with_webs(row, rise, plate)
+    }
+
+    // Every group's limit, row by row.
+    fn fill_limits(&self, rows: usize, levers: &[u32; 8], table: &mut [u64; 36])
+        requires { FillAsked self.now rows levers.now }
+        ensures { TableFilled rows (limits_by self.now levers.now) table.old table.new }
+    {
+        let mut first = 0;
+        for row in 0..rows {
+            self.fill_row(rows, levers, row, first, table);
+            first += rows - row;
+        }
+    }
+
+    // The limits of the groups that begin at a row, from the shortest to the longest. They have their places from `first` on.
+    fn fill_row(
+        &self,
+        rows: usize,
+        levers: &[u32; 8],
+        row: usize,
+        first: usize,
+        table: &mut [u64; 36],
+    )
+        requires { RowAsked self.now rows levers.now row first }
+        ensures { (entry : List ℕ)
+            → FilledTo rows (limits_by self.now levers.now) entry first table.old
+            → FilledTo rows (limits_by self.now levers.now) entry (first + (rows - row)) table.new }
+    {
+        for last in row..rows {
+            let rise = (levers[row] - levers[last]) as u64;
+            let limit = self.group_limit(row, (last - row) as u64 + 1, rise);
+            table[first + (last - row)] = limit;
+        }
+    }
 }
 
 // The limit of every group of a face's rows, put at the front of a lent table: groups 1–1, 1–2, .. 1–n, 2–2 and so on. Places past the
@@ -119,45 +180,11 @@ pub fn group_limits(
     pair: u64,
     table: &mut [u64; 36],
 )
-    requires { LimitsAsked column face spacing steel pair table.old }
+    requires { LimitsAsked column face spacing steel pair }
     ensures { TableFilled face.rows (group_limit column face pair) table.old table.new }
 {
-    let d = dimensions_of(column, face, spacing, steel, pair);
-    let levers = face.levers;
-    fill_limits(d, face.rows as usize, levers, table);
-}
-
-// What of the limits is the same for every group.
-fn dimensions_of(
-    column: Column,
-    face: Face,
-    spacing: Spacing,
-    steel: SteelStrengths,
-    pair: u64,
-) -> Dimensions
-    requires { Admissible column face × FiguresGiven column face spacing steel pair }
-    ensures { result ≡ dimensions_of column face pair }
-{
-    let edge = least(spacing.column_edge, spacing.plate_edge);
-    Dimensions {
-        column: stub_of(spacing.column, edge, column.flange, steel.column, pair),
-        plate: stub_of(spacing.plate, edge, face.plate.thickness, steel.plate, pair),
-        column_lengths: lengths_of(spacing.column, spacing.column_edge),
-        plate_lengths: lengths_of(spacing.plate, spacing.plate_edge),
-        near_flange: times(face.layout.alpha, spacing.plate) / 100,
-        extension_limit: extension_limit(
-            face,
-            spacing.extension,
-            spacing.plate_edge,
-            steel.plate,
-            pair,
-        ),
-        web_length: times(face.layout.gauge, 173),
-        column_web: times(column.web, steel.column),
-        beam_web: times(face.beam.web, steel.beam),
-        pair,
-        first: face.extended as usize,
-    }
+    let d = Dimensions::new(column, face, spacing, steel, pair);
+    d.fill_limits(face.rows as usize, &face.levers, table);
 }
 
 // The plate limit of the extension row alone, 0 if flush: from mx, the plate's e and its strength.
@@ -170,28 +197,8 @@ fn extension_limit(face: Face, m: u64, plate_edge: u64, strength: u64, pair: u64
     if face.extended == 0 {
         return 0;
     }
-    let end = times(layout.edge, 10);
-    let stub = stub_of(m, end, plate.thickness, strength, pair);
+    let end = 10 * (layout.edge as u64);
+    let stub = Stub::new(m, end, plate.thickness, strength, pair);
     let length = extension_length(m, layout.edge, plate_edge, layout.gauge, plate.width);
-    bending(stub, pair, 1, length)
-}
-
-// Every group's limit, row by row and from the shortest group to the longest.
-fn fill_limits(d: Dimensions, rows: usize, levers: [u32; 8], table: &mut [u64; 36])
-    requires { FillAsked d rows levers table.old }
-    ensures { TableFilled rows (limits_by d levers) table.old table.new }
-{
-    let mut next = 0;
-    let mut row = 0;
-    let mut last = 0;
-    while row < rows {
-        let rise = (levers[row] - levers[last]) as u64;
-        table[next] = group_limit(d, row, (last - row) as u64 + 1, rise);
-        next += 1;
-        last += 1;
-        if last == rows {
-            row += 1;
-            last = row;
-        }
-    }
+    stub.bending(pair, 1, length)
 }

@@ -10,10 +10,9 @@ fill_limits-requires c =
     let a = c.args in
     record {
       dimensions =
-          rw c.dimensions_of-d.ensures
+          rw c.new-d.ensures
           (dimensions_within a.column a.face c.requires.admissible a.pair c.requires.figures.pair);
       levers = levers_of a.column a.face c.requires.admissible;
-      size = c.requires.size;
     }
 
 pub returns : goal.returns
@@ -24,7 +23,7 @@ returns c =
       size = filled.size;
       agrees = λ row last h inside.
           filled.agrees row last h inside
-          ∙ ap (λ d. limits_by d a.face.levers row last) c.dimensions_of-d.ensures
+          ∙ ap (λ d. limits_by d a.face.levers row last) c.new-d.ensures
           ∙ limit_worked a.column a.face a.pair row last;
       bounded = filled.bounded;
       untouched = filled.untouched;

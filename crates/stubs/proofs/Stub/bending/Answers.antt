@@ -1,7 +1,6 @@
--- `bending` meets its contract: the products fit, since the stub's figures are bounded. Assumes nothing.
+-- `Stub::bending` meets its contract: the products fit, since the stub's figures are bounded. Assumes nothing.
 use Rattle.arithmetic.proofs.Bounds.{◌⊗◌, ◌⊕◌, fits}
-use Rattle.stubs.specs.Worked.{bending_by}
-use Rattle.stubs.proofs.bending.Goals as goal
+use Rattle.stubs.proofs.Stub.bending.Goals as goal
 
 pub overflow_mul-flexure : goal.overflow_mul-flexure
 overflow_mul-flexure c = let p = c.requires in fits (p.length_most ⊗ p.stub.flexure) tt
@@ -14,7 +13,3 @@ overflow_add-mode2 c = let p = c.requires in fits (p.length_most ⊗ p.stub.flex
 
 pub overflow_mul-rows : goal.overflow_mul-rows
 overflow_mul-rows c = let p = c.requires in fits (p.rows ⊗ p.pair) tt
-
-pub returns : goal.returns
-unfolding bending_by
-returns c = rw (c.least-2.ensures, c.least.ensures)

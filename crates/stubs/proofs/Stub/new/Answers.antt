@@ -1,10 +1,9 @@
--- `stub_of` meets its contract: the products fit, since its parts are bounded. Assumes nothing.
+-- `Stub::new` meets its contract: the products fit, since its parts are bounded. Assumes nothing.
 use native.Mathlib.Omega.{arith}
 use Rattle.arithmetic.specs.Range.{Within, ◌to◌}
 use Rattle.arithmetic.proofs.Bounds.{exactly, at_most, ◌⊗◌, fits}
-use Rattle.stubs.specs.Worked.{stub_of}
 use Rattle.stubs.specs.InRange.{edge_distances}
-use Rattle.stubs.proofs.stub_of.Goals as goal
+use Rattle.stubs.proofs.Stub.new.Goals as goal
 
 pub overflow_mul-result : goal.overflow_mul-result
 overflow_mul-result c = fits (c.requires.thickness ⊗ c.requires.thickness) tt
@@ -15,10 +14,5 @@ overflow_mul-result-2 c = fits (c.requires.thickness ⊗ c.requires.thickness �
 pub overflow_mul-result-5 : goal.overflow_mul-result-5
 overflow_mul-result-5 c =
     let p = c.requires in
-    let effective : Within (0 to edge_distances.high) c.least-effective.result = at_most (omega (arith, c.least-effective.ensures, p.edge_most)) in
+    let effective : Within (0 to edge_distances.high) c.min-effective.result = at_most (omega (arith, c.min-effective.ensures, p.edge_most)) in
     fits (exactly 200 ⊗ effective ⊗ p.pair) tt
-
-pub returns : goal.returns
-returns c =
-    let a = c.args in
-    λ i. stub_of a.m (c.least-effective.ensures i) a.thickness a.strength a.pair
