@@ -18,13 +18,13 @@ pub new-requires : goal.new-requires
 new-requires c =
     let here = goal.at.new-requires c in
     column_parts c.args.column c.args.face c.requires.0 c.args.spacing c.args.steel c.args.pair c.requires.1 _
-    (omega (arith, c.min-edge.ensures, (sizes_at here.Start).column_edge.high))
+    (omega (arith, c.min-edge.ensures, (sizes_at here.Start).column_edge.high, (sizes_at here.Start).plate_edge.high))
 
 pub new-requires-2 : goal.new-requires-2
 new-requires-2 c =
     let here = goal.at.new-requires-2 c in
     plate_parts c.args.column c.args.face c.requires.0 c.args.spacing c.args.steel c.args.pair c.requires.1 _
-    (omega (arith, c.min-edge.ensures, (sizes_at here.Start).column_edge.high))
+    (omega (arith, c.min-edge.ensures, (sizes_at here.Start).column_edge.high, (sizes_at here.Start).plate_edge.high))
 
 pub overflow_mul-result-3 : goal.overflow_mul-result-3
 overflow_mul-result-3 c =
