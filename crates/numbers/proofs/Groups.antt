@@ -54,10 +54,6 @@ in_32_bits before scale value group few scales small seven fifth =
     omega arith)
     (split before 4)
 
--- the first turn
-pub head_none : (left : List ℕ) → Head left 0 1 0
-head_none left = record { few = omega arith; scales = refl; small = omega arith; reads = above_none (read_number left) }
-
 -- the bytes end
 pub reads_cut : {left : List ℕ} {before scale value : ℕ} → Head left before scale value → length left ≤ before → refused 1 ≡ read_number left
 unfolding read_groups
