@@ -40,10 +40,6 @@ unfolding spaced
 letters_size [] = refl
 letters_size (x ∷ xs) = omega (arith, letters_size xs)
 
-pub items_first : (f : ℕ → List ℕ) (x : ℕ) (xs : List ℕ) → length (items f (x ∷ xs)) ≡ 1 + length (f x) + length (items f xs)
-unfolding spaced
-items_first f x xs = rw length-append (omega arith)
-
 -- an item, its space before it, and those after it
 module _ (f : ℕ → List ℕ) (xs : List ℕ) (i : ℕ) (inside : i < length xs) where
   pub items_left : items f (drop i xs) ≡ (32 ∷ []) ++ (f (get_or xs i 0) ++ items f (drop (i + 1) xs))

@@ -29,10 +29,10 @@ digits_enough (suc most) n small =
     (λ more. rw (digits_more (suc (suc most)) n more, digits_more (suc most) n more, rest (omega arith)))
     (split n 10)
 
-pub decimal_last : (n : ℕ) → n < 10 → decimal n ≡ digit n ∷ []
+decimal_last : (n : ℕ) → n < 10 → decimal n ≡ digit n ∷ []
 decimal_last n last = digits_last 19 n last
 
-pub decimal_more : (n : ℕ) → n < 2 ^ 64 → 10 ≤ n → decimal n ≡ decimal (n / 10) ++ (digit (n % 10) ∷ [])
+decimal_more : (n : ℕ) → n < 2 ^ 64 → 10 ≤ n → decimal n ≡ decimal (n / 10) ++ (digit (n % 10) ∷ [])
 decimal_more n small more = rw (digits_more 19 n more, digits_enough 18 (n / 10) (omega arith))
 
 -- ---- how many
@@ -54,9 +54,6 @@ count_last n last = rw (decimal_last n last)
 
 count_more : (n : ℕ) → n < 2 ^ 64 → 10 ≤ n → length (decimal n) ≡ length (decimal (n / 10)) + 1
 count_more n small more = rw (decimal_more n small more) (length-append (decimal (n / 10)) (digit (n % 10) ∷ []))
-
-pub count_positive : (n : ℕ) → n < 2 ^ 64 → 0 < length (decimal n)
-count_positive n small = ⊎_elim (λ last. omega (arith, count_last n last)) (λ more. omega (arith, count_more n small more)) (split n 10)
 
 count_power : (power n : ℕ) → n < 2 ^ 64 → 10 ^ power ≤ n → n < 10 * 10 ^ power → length (decimal n) ≡ power + 1
 count_power zero n small reached next = count_last n (omega arith)
