@@ -6,7 +6,7 @@ use mathlib.Core.List.{List, ◌∷◌}
 use mathlib.Core.Logic.{◌⊎◌, ⊎_elim}
 use native.Mathlib.Omega.{arith}
 use native.Mathlib.Numerals.{add-one}
-use native.Mathlib.Nat.{zero-add, one-mul, add_assoc, mul-add, mul_assoc, pow-suc, mul-le-mul_left, pow-le-pow_right}
+use native.Mathlib.Nat.{add_assoc, mul-add, mul_assoc, pow-suc, mul-le-mul_left, pow-le-pow_right}
 use borrow.Author.Tests.{lt-ltb, le-ltb, le-leb, eq-eqb}
 use lib.ListN.{length, get_or, drop, length-drop, drop_of_length-le}
 use lib.Seq.{drop-cons, drop-drop}
@@ -19,11 +19,6 @@ use Rattle.numbers.specs.Answers.{number_of, NumberRead}
 use Rattle.numbers.specs.declared.number.NumberRefusal.{NumberRefusal}
 use Rattle.numbers.specs.declared.number.NumberRefusal.TheVariants.{BytesEnd}
 use Rattle.numbers.proofs.Codec.{not_over, not_longer}
-
--- nothing read yet
-pub above_none : (parse : Parse ℕ) → parse ≡ above 1 0 parse
-above_none (got x left) = simp (zero-add, one-mul)
-above_none (refused r) = refl
 
 -- a group on top of those read
 above-above : (scale value low : ℕ) (parse : Parse ℕ)
