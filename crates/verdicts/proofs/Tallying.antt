@@ -57,27 +57,35 @@ either_le false = omega arith
 pub row_moment_le : (force lever : ℕ) → force ≤ most_limit → lever ≤ most_lever → force * lever ≤ most_row_moment
 row_moment_le force lever small low = mul-le-mul {n₁ = force} {m₁ = lever} {n₂ = most_limit} {m₂ = most_lever} small low
 
-pub one_more : (levers forces : List ℕ) (sum z pulling row : ℕ) → row < length levers → row < length forces
-    → get_or levers row 0 ≤ most_lever → get_or forces row 0 ≤ most_limit → (has : ℕ) → has ≡ cond (eqb (get_or forces row 0) 0) 0 1
-    → Counted levers forces sum z pulling row
-    → Counted levers forces (sum + get_or forces row 0) (z + get_or forces row 0 * get_or levers row 0) (pulling + has) (row + 1)
-one_more levers forces sum z pulling row hl hf low small has eh c =
+-- the next row's force and lever
+pub record Next (levers forces : List ℕ) (row force lever : ℕ) : Type 0 where
+  pub lever_inside : row < length levers
+  pub force_inside : row < length forces
+  pub force_is : force ≡ get_or forces row 0
+  pub lever_is : lever ≡ get_or levers row 0
+  pub force_most : force ≤ most_limit
+  pub lever_most : lever ≤ most_lever
+
+pub one_more : (levers forces : List ℕ) (sum z pulling row force lever : ℕ) → Next levers forces row force lever
+    → (has : ℕ) → has ≡ cond (eqb force 0) 0 1 → Counted levers forces sum z pulling row
+    → Counted levers forces (sum + force) (z + force * lever) (pulling + has) (row + 1)
+one_more levers forces sum z pulling row force lever r has eh c =
     let one : row + 1 ≡ suc row = add-one row in
-    let f = get_or forces row 0 in
-    let h = get_or levers row 0 in
-    let ls = take-suc levers row 0 hl in
-    let fs = take-suc forces row 0 hf in
+    let ls : take (suc row) levers ≡ take row levers ++ (lever ∷ []) = rw r.lever_is (take-suc levers row 0 r.lever_inside) in
+    let fs : take (suc row) forces ≡ take row forces ++ (force ∷ []) = rw r.force_is (take-suc forces row 0 r.force_inside) in
+    let levers_inside = r.lever_inside in
+    let forces_inside = r.force_inside in
     let same : length (take row levers) ≡ length (take row forces)
     = length-take-le row levers (omega arith) ∙ sym (length-take-le row forces (omega arith)) in
-    let product = row_moment_le f h small low in
+    let product = row_moment_le force lever r.force_most r.lever_most in
     rw one
     (record {
-      sums = ap (λ s. s + f) c.sums ∙ sym (total_snoc (take row forces) f) ∙ ap total (sym fs);
-      moments = ap (λ m. m + f * h) c.moments ∙ sym (moment_snoc _ _ h f same) ∙ ap₂ moment (sym ls) (sym fs);
-      pulls = ap₂ (λ p q. p + q) c.pulls eh ∙ sym (pulling_snoc (take row forces) f) ∙ ap pulling_rows (sym fs);
-      sum_le = omega (arith, c.sum_le);
+      sums = ap (λ s. s + force) c.sums ∙ sym (total_snoc (take row forces) force) ∙ ap total (sym fs);
+      moments = ap (λ m. m + force * lever) c.moments ∙ sym (moment_snoc _ _ lever force same) ∙ ap₂ moment (sym ls) (sym fs);
+      pulls = ap₂ (λ p q. p + q) c.pulls eh ∙ sym (pulling_snoc (take row forces) force) ∙ ap pulling_rows (sym fs);
+      sum_le = omega (arith, c.sum_le, r.force_most);
       moment_le = omega (arith, c.moment_le);
-      pulling_le = omega (arith, c.pulling_le, eh, either_le (eqb f 0));
+      pulling_le = omega (arith, c.pulling_le, eh, either_le (eqb force 0));
     })
 
 pub pulling_le_length : (forces : List ℕ) → pulling_rows forces ≤ length forces

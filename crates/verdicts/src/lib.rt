@@ -15,7 +15,6 @@ ghost use Rattle.verdicts.specs.Tally.{tally_of};
 ghost use Rattle.verdicts.specs.Asked.{most_moment, TallyAsked, BendingAsked, BearingAsked, PairAsked, PairsAsked, BoltsAsked};
 ghost use Rattle.verdicts.specs.Asked.{WeldAsked, FlangeWeldAsked};
 
-use arithmetic::least;
 use joint::{Beam, Column, Face, Loads, Plate};
 use strength::BoltStrengths;
 
@@ -37,26 +36,16 @@ pub fn tally_forces(rows: usize, levers: [u32; 8], forces: [u64; 8]) -> Tally
     let mut sum = 0;
     let mut moment = 0;
     let mut pulling = 0;
-    let mut row = 0;
-    while row < rows {
-        let force = forces[row];
-        sum += force;
-        moment += force * (levers[row] as u64);
-        pulling += force_count(force);
-        row += 1;
+    for (force, lever) in forces[..rows].iter().zip(&levers[..rows]) {
+        sum += *force;
+        moment += *force * (*lever as u64);
+        pulling += u64::from(*force != 0);
     }
     Tally {
         sum,
         moment,
         pulling,
     }
-}
-
-// 1 for a row with a force, 0 for one without.
-fn force_count(force: u64) -> u64
-    ensures { result ≡ cond (eqb force 0) 0 1 }
-{
-    if force == 0 { 0 } else { 1 }
 }
 
 // Bending, in whole numbers with a sign: a tension adds to what is asked.
@@ -78,15 +67,16 @@ fn pair_bearing(diameter: u64, thickness: u32, strength: u64) -> u64
 }
 
 // The lesser bearing of a pair, on the plate and on the column flange.
+#[tactic(auto, unfolding(crate::specs::Bolts::bearing))]
 fn bearing_of(bolt: BoltStrengths, column: Column, plate: Plate) -> u64
     requires { PairAsked bolt column plate }
     ensures { result ≡ bearing bolt column plate }
 {
-    let plate_strength = least(bolt.bearing, strength::steel_bearing(plate.grade));
-    let column_strength = least(bolt.bearing, strength::steel_bearing(column.grade));
+    let plate_strength = bolt.bearing.min(strength::steel_bearing(plate.grade));
+    let column_strength = bolt.bearing.min(strength::steel_bearing(column.grade));
     let on_plate = pair_bearing(bolt.diameter, plate.thickness, plate_strength);
     let on_column = pair_bearing(bolt.diameter, column.flange, column_strength);
-    least(on_plate, on_column)
+    on_plate.min(on_column)
 }
 
 // What pairs in rows with a force and pairs in rows without one count together.
@@ -94,10 +84,11 @@ fn pairs_total(pulling: u64, idle: u64, shear: u64, bearing: u64) -> u64
     requires { PairsAsked pulling idle shear }
     ensures { result ≡ pulling * min (2 * shear / 5) bearing + idle * min shear bearing }
 {
-    pulling * least(2 * shear / 5, bearing) + idle * least(shear, bearing)
+    pulling * (2 * shear / 5).min(bearing) + idle * shear.min(bearing)
 }
 
 // Bolts: rows with a force, and rows without one, shear rows among them.
+#[tactic(auto, unfolding(crate::specs::Bolts::idle_pair, crate::specs::Bolts::pulling_pair))]
 pub fn bolts_carry(
     bolt: BoltStrengths,
     column: Column,
@@ -114,6 +105,7 @@ pub fn bolts_carry(
 }
 
 // The sum of the first three rows, two if flush; places past the last row are 0.
+#[tactic(auto, unfolding(crate::specs::Welds::top_rows))]
 pub fn top_rows(extended: u32, forces: [u64; 8]) -> u64
     requires { (k : ℕ) → get_or forces k 0 ≤ most_limit }
     ensures { result ≡ top_rows extended forces }
@@ -131,6 +123,7 @@ fn weld_capacity(leg: u32, length: u32, strength: u64) -> u64
 }
 
 // Flange weld, from yb, pw and the sum of the top rows.
+#[tactic(auto, unfolding(crate::specs::Welds::flange_weld_by))]
 pub fn flange_weld(face: Face, beam_strength: u64, weld_strength: u64, top: u64) -> bool
     requires { FlangeWeldAsked face beam_strength weld_strength }
     ensures { result ≡ flange_weld_by face top }
@@ -141,7 +134,7 @@ pub fn flange_weld(face: Face, beam_strength: u64, weld_strength: u64, top: u64)
         return true;
     }
     let flange = flange_capacity(beam_strength, beam);
-    least(flange, top) <= weld_capacity(leg, beam.width, weld_strength)
+    flange.min(top) <= weld_capacity(leg, beam.width, weld_strength)
 }
 
 // What the beam's tension flange carries.
@@ -153,6 +146,7 @@ fn flange_capacity(strength: u64, beam: Beam) -> u64
 }
 
 // Web weld, from pw.
+#[tactic(auto, unfolding(crate::specs::Welds::web_weld_passes))]
 pub fn web_weld(face: Face, strength: u64) -> bool
     requires { FaceInRange face × (strength ≡ weld_strength face.beam.grade face.plate.grade) }
     ensures { result ≡ web_weld_passes face }

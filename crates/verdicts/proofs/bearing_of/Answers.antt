@@ -3,7 +3,6 @@ use native.Mathlib.Omega.{arith}
 use Rattle.arithmetic.specs.Range.{◌to◌}
 use Rattle.arithmetic.proofs.Bounds.{at_most, loosen}
 use Rattle.strength.specs.InRange.{most_thickness}
-use Rattle.verdicts.specs.Bolts.{bearing}
 use Rattle.verdicts.proofs.bearing_of.Goals as goal
 
 pub pair_bearing-on_plate-requires : goal.pair_bearing-on_plate-requires
@@ -12,7 +11,7 @@ pair_bearing-on_plate-requires c =
     record {
       diameter = p.bolt.diameter;
       thickness = loosen (0 to most_thickness) p.plate.thickness tt;
-      strength = at_most (omega (arith, c.least-plate_strength.ensures, p.bolt.bearing.high));
+      strength = at_most (omega (arith, c.min-plate_strength.ensures, p.bolt.bearing.high));
     }
 
 pub pair_bearing-on_column-requires : goal.pair_bearing-on_column-requires
@@ -21,18 +20,5 @@ pair_bearing-on_column-requires c =
     record {
       diameter = p.bolt.diameter;
       thickness = loosen (0 to most_thickness) p.column.flange tt;
-      strength = at_most (omega (arith, c.least-column_strength.ensures, p.bolt.bearing.high));
+      strength = at_most (omega (arith, c.min-column_strength.ensures, p.bolt.bearing.high));
     }
-
-pub returns : goal.returns
-unfolding bearing
-returns c =
-    rw (
-      c.least.ensures,
-      c.pair_bearing-on_column.ensures,
-      c.pair_bearing-on_plate.ensures,
-      c.least-column_strength.ensures,
-      c.steel_bearing-2.ensures,
-      c.least-plate_strength.ensures,
-      c.steel_bearing.ensures,
-    )

@@ -2,7 +2,6 @@
 use native.Mathlib.Omega.{arith}
 use Rattle.arithmetic.proofs.Bounds.{at_most}
 use Rattle.strength.proofs.Ranges.{weld_range}
-use Rattle.verdicts.specs.Welds.{web_weld_passes}
 use Rattle.verdicts.proofs.web_weld.Goals as goal
 
 pub weld_capacity-requires : goal.weld_capacity-requires
@@ -13,7 +12,3 @@ weld_capacity-requires c =
       length_most = p.0.welds.web_length;
       strength = rw p.1 (weld_range _ _);
     }
-
-pub returns : goal.returns
-unfolding web_weld_passes
-returns c = rw (c.weld_capacity.ensures, c.requires.1)
