@@ -9,7 +9,7 @@ ghost use Rattle.printer.specs.Answers.{most_sheet};
 ghost use Rattle.sheet.specs.Whole.{Whole};
 
 use input::read_whole;
-use printer::{MOST_INPUT, MOST_SHEET, Printed};
+use printer::{MOST_INPUT, MOST_SHEET};
 use std::io::Write;
 
 // One byte more than a sheet takes, so that an input that is too long is seen to be.
@@ -33,11 +33,7 @@ fn print_sheet(input: &[u8], output: &mut [u8]) -> usize
     requires { most_sheet ≤ length output.old }
     ensures { Whole input.now output.old output.new result }
 {
-    let printed = printer::sheet(input, output);
-    match printed {
-        Printed::Length(size) => size,
-        Printed::NoRoom => 0,
-    }
+    printer::sheet(input, output).unwrap_or(0)
 }
 
 fn main(rt: HostRuntime) {
