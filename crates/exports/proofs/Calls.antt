@@ -9,7 +9,7 @@ use native.Mathlib.Omega.{arith}
 use borrow.Author.Tests.{le-leb, leb-true}
 use lib.Dec.{leb, eqb}
 use lib.ListN.{length, get_or, take, drop, length-append, length-take, length-drop}
-use lib.Seq.{take_at, drop_at, take-append-le, get_or-append-add, length-take-le}
+use lib.Seq.{get_or-set_other, get_or-take, take_at, drop_at, take-append-le, get_or-append-add, length-take-le}
 use Rattle.arithmetic.specs.Checks.{Check, first_failing}
 use Rattle.arithmetic.proofs.Checks.{one_after_another}
 use Rattle.buffers.specs.Put.{at_front}
@@ -32,7 +32,8 @@ use Rattle.connection.specs.Connection.{refused_after_10, refusals_after_10, wor
 use Rattle.connection.specs.Demand.{Demand3For}
 use Rattle.work.specs.Work.{refused_outcome, of_one_face, if_taken, both_taken, worked_second, worked_faces, worked_with, worked}
 use Rattle.work.specs.Demand.{Demand3Of}
-use Rattle.words.specs.Words.{first_word_count, joint_word_count, words_from, joint_of_words}
+use Rattle.work.proofs.Cases.{of_one, demand_alone}
+use Rattle.words.specs.Words.{fields_of_words, first_word_count, joint_word_count, words_from, joint_of_words}
 use Rattle.words.specs.Results.{face_word_count, flag, figure_words, result_words, panel_flag, outcome_words}
 use Rattle.exports.specs.Calls.{Demand3OfFace, Demand3OfWords}
 
@@ -143,12 +144,26 @@ refusal_small table fields room is =
     (work_small _ (joint_of_words fields) (eight_words field_count fields (omega (arith, room)))
     (eight_words (first_word_count + own_count) fields (omega (arith, room))))
 
--- by the area and the joint that the words are
-pub worked_is : (table : BoltTable) (fields : List ℕ) {outcome : Outcome} {area : Option ℕ} {joint : Joint} → outcome ≡ worked_with area joint
-    → area ≡ area_of table joint.bolts.diameter → joint ≡ joint_of_words fields
-    → outcome ≡ worked table (joint_of_words fields)
-worked_is table fields {joint = joint} outcome area is =
-    outcome ∙ ap (λ (a : Option ℕ). worked_with a joint) area ∙ ap (worked table) is
+-- field 1 is the first word
+pub first_word : (fields : List ℕ) → (joint_of_words fields).face.rows ≡ get_or fields 0 0
+unfolding joint_of fields_of_words
+first_word fields =
+    get_or-set_other (take field_count fields) 26 0 _ 0 (λ same. absurd (omega arith)) ∙ get_or-take field_count fields 0 0 (omega arith)
+
+-- a joint with one face, by its parts
+module _ (table : BoltTable) (joint : Joint) {column : Column} {bolts : Bolts} {face : Face} {area : Option ℕ}
+    (alone : two_faced joint.face.rows ≡ false) (parts : (column ≡ joint.column) × (bolts ≡ joint.bolts) × (face ≡ joint.face))
+    (listed : area ≡ area_of table bolts.diameter) where
+  pub alone_is : {outcome : FaceOutcome} → outcome ≡ worked_connection true column bolts area face → of_one_face outcome ≡ worked table joint
+  alone_is is =
+      ap of_one_face (is ∙ (rw (listed, parts.0, parts.1, parts.2))) ∙ of_one (area_of table joint.bolts.diameter) joint alone
+
+  pub alone_demand : (outcome : Outcome) → Demand3For true column bolts area face outcome.result → Demand3Of table joint outcome
+  alone_demand outcome demand =
+      let same : Demand3For true joint.column joint.bolts (area_of table joint.bolts.diameter) joint.face outcome.result =
+      rw (← parts.0, ← parts.2, ← parts.1, ← listed) demand
+      in
+      demand_alone (area_of table joint.bolts.diameter) joint outcome alone same
 
 -- ---- what stands at the front, at exit
 

@@ -4,7 +4,7 @@
 
 ghost use Rattle.std.specs.Prelude.{◌≡◌};
 ghost use Rattle.fields.specs.Fields.{axial_of, stored_axial, column_of, bolts_of, beam_of, plate_of, layout_of, welds_of};
-ghost use Rattle.fields.specs.Fields.{loads_of, face_of, joint_of, fields_of, own_of};
+ghost use Rattle.fields.specs.Fields.{loads_of, face_of, first_face_of, joint_of, fields_of, own_of};
 ghost use Rattle.fields.specs.Places.{PlacesWithin};
 
 use joint::{Beam, Bolts, Column, Face, Joint, Layout, Loads, Plate, Welds};
@@ -38,7 +38,7 @@ pub fn stored_axial(axial: i32) -> u32
 }
 
 // Fields 5, 8 to 13 and 30.
-fn column_of(fields: &[u32; FIELD_COUNT]) -> Column
+pub fn column_of(fields: &[u32; FIELD_COUNT]) -> Column
     ensures { result ≡ column_of fields.now }
 {
     Column {
@@ -54,7 +54,7 @@ fn column_of(fields: &[u32; FIELD_COUNT]) -> Column
 }
 
 // Fields 3 and 4.
-fn bolts_of(fields: &[u32; FIELD_COUNT]) -> Bolts
+pub fn bolts_of(fields: &[u32; FIELD_COUNT]) -> Bolts
     ensures { result ≡ bolts_of fields.now }
 {
     Bolts {
@@ -144,6 +144,18 @@ impl FacePart<'_> {
     }
 }
 
+// The first face among fields 1 to 30, with its levers.
+pub fn first_face_of(fields: &[u32; FIELD_COUNT], levers: [u32; 8]) -> Face
+    ensures { result ≡ first_face_of fields.now levers }
+{
+    FacePart {
+        numbers: fields,
+        sixth: 5,
+        fourteenth: 13,
+    }
+    .face(levers)
+}
+
 // The joint that has these fields before the levers, and these levers; its second face has these numbers of its own, and these levers.
 #[tactic(auto, unfolding(crate::specs::Fields::joint_of))]
 pub fn joint_of(
@@ -154,11 +166,6 @@ pub fn joint_of(
 ) -> Joint
     ensures { result ≡ joint_of fields levers own other_levers }
 {
-    let first = FacePart {
-        numbers: &fields,
-        sixth: 5,
-        fourteenth: 13,
-    };
     let second = FacePart {
         numbers: &own,
         sixth: 2,
@@ -167,7 +174,7 @@ pub fn joint_of(
     Joint {
         column: column_of(&fields),
         bolts: bolts_of(&fields),
-        face: first.face(levers),
+        face: first_face_of(&fields, levers),
         other: second.face(other_levers),
     }
 }

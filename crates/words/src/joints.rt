@@ -62,6 +62,28 @@ pub fn joint_of(words: &[u32]) -> Joint
     )
 }
 
+// A joint without its second face.
+#[derive(Clone, Copy)]
+pub struct OneFaced {
+    pub column: Column,
+    pub bolts: Bolts,
+    pub face: Face,
+}
+
+// What a joint's words have without a second face: of those nothing is read.
+pub fn one_faced_of(words: &[u32]) -> OneFaced
+    requires { joint_word_count ≤ length words.now }
+    ensures { let joint = joint_of_words words.now in
+        (result.column ≡ joint.column) × (result.bolts ≡ joint.bolts) × (result.face ≡ joint.face) }
+{
+    let fields = first_fields_of(words);
+    OneFaced {
+        column: fields::column_of(&fields),
+        bolts: fields::bolts_of(&fields),
+        face: fields::first_face_of(&fields, words[FIELD_COUNT..FIRST_WORDS].try_into().unwrap()),
+    }
+}
+
 // The words before a face's levers: the fields, with N as a word.
 fn head_of(column: Column, bolts: Bolts, face: Face) -> [u32; FIELD_COUNT]
     ensures { result ≡ head_of column bolts face }
