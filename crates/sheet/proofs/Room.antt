@@ -1,7 +1,7 @@
 -- What `printer::sheet` says of an output that holds any sheet: all of it was printed, since what printing gives there is the whole sheet.
 -- Assumes nothing.
 use Prim.Native.Nat.{ℕ, ◌≤◌}
-use mathlib.Core.Path.{◌≡◌, sym, ap, ◌∙◌}
+use mathlib.Core.Path.{◌≡◌, ap, ◌∙◌}
 use mathlib.Core.List.{List}
 use native.Mathlib.Omega.{arith}
 use lib.ListN.{length, drop, length-append}
@@ -10,7 +10,7 @@ use Rattle.std.specs.Result.{result_unwrap_or}
 use Rattle.numbers.specs.Number.{Bytes}
 use Rattle.buffers.specs.Put.{at_front}
 use Rattle.printer.specs.Sheet.{sheet_of}
-use Rattle.printer.specs.Answers.{whole, most_sheet, printing, printed_meaning}
+use Rattle.printer.specs.Answers.{most_sheet, printing, printed_meaning}
 use Rattle.printer.specs.declared.NoRoom.{NoRoom}
 use Rattle.printer.proofs.Sizes.{sheet_whole}
 use Rattle.sheet.specs.Whole.{Whole}

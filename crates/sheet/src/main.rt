@@ -39,12 +39,16 @@ fn print_sheet(input: &[u8], output: &mut [u8]) -> usize
 fn main(rt: HostRuntime) {
     let mut input = input_space();
     let Ok(got) = read_whole(&mut rt.stdin(), &mut input) else {
-        let _told = eprintln!(rt; "sheet: the input could not be read to its end; nothing is printed");
+        let _told = eprintln!(rt;
+            "sheet: the input could not be read to its end; nothing is printed"
+        );
         return;
     };
     let mut output = output_space();
     let size = print_sheet(&input[..got], &mut output);
     if rt.stdout().write_all(&output[..size]).is_err() {
-        let _told = eprintln!(rt; "sheet: the output could not be written whole; the lines above are not the whole sheet");
+        let _told = eprintln!(rt;
+            "sheet: the output could not be written whole; the lines above are not the whole sheet"
+        );
     }
 }

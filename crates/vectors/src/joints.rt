@@ -17,7 +17,10 @@ pub const SHORT_OUTCOME: usize = FACE_WORDS + 2;
 // The words of a line's joint, in either form.
 pub fn joint_words(numbers: &[u64]) -> Result<[u32; JOINT_WORDS], Difference> {
     let mut words = [0u32; JOINT_WORDS];
-    put_words(&in_long_form::<JOINT_WORDS>(numbers, SHORT_JOINT)?, &mut words)?;
+    put_words(
+        &in_long_form::<JOINT_WORDS>(numbers, SHORT_JOINT)?,
+        &mut words,
+    )?;
     Ok(words)
 }
 
@@ -36,11 +39,7 @@ pub fn worked_numbers(table: BoltTable, joint: [u32; JOINT_WORDS]) -> [u64; OUTC
 }
 
 // Works the joint of some numbers, with the bolt table that is in force.
-pub fn compare_working(
-    table: BoltTable,
-    joint: &[u64],
-    answer: &[u64],
-) -> Result<(), Difference> {
+pub fn compare_working(table: BoltTable, joint: &[u64], answer: &[u64]) -> Result<(), Difference> {
     let should = in_long_form::<OUTCOME_NUMBERS>(answer, SHORT_OUTCOME)?;
     compare(&worked_numbers(table, joint_words(joint)?), &should)
 }

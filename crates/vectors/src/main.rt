@@ -72,11 +72,15 @@ fn run_all<W: Write>(text: &[u8], out: &mut W) -> io::Result<()> {
 fn main(rt: HostRuntime) {
     let mut text = input_space();
     let Ok(size) = read_whole(&mut rt.stdin(), &mut text) else {
-        let _told = eprintln!(rt; "vectors: the input could not be read to its end; nothing is run");
+        let _told = eprintln!(rt;
+            "vectors: the input could not be read to its end; nothing is run"
+        );
         return;
     };
     if MOST_INPUT < size {
-        let _told = eprintln!(rt; "vectors: the input is longer than {MOST_INPUT} bytes; nothing is run");
+        let _told = eprintln!(rt;
+            "vectors: the input is longer than {MOST_INPUT} bytes; nothing is run"
+        );
         return;
     }
     if run_all(&text[..size], &mut rt.stdout()).is_err() {

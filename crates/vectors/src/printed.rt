@@ -49,7 +49,10 @@ impl Figure {
     fn ends(self) -> Option<(u32, u32)> {
         let least = self.printed.checked_sub(self.tolerance)?;
         let most = self.printed.checked_add(self.tolerance)?;
-        Some((self.count.checked_mul(least)?, self.count.checked_mul(most)?))
+        Some((
+            self.count.checked_mul(least)?,
+            self.count.checked_mul(most)?,
+        ))
     }
 }
 

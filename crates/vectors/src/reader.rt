@@ -56,7 +56,11 @@ impl<'a> Items<'a> {
 
     // The number whose digits stand next.
     fn digits(&mut self) -> Option<u64> {
-        let count = self.left.iter().take_while(|byte| byte.is_ascii_digit()).count();
+        let count = self
+            .left
+            .iter()
+            .take_while(|byte| byte.is_ascii_digit())
+            .count();
         let (digits, left) = self.left.split_at(count);
         self.left = left;
         str::from_utf8(digits).ok()?.parse().ok()
@@ -131,7 +135,9 @@ impl<'a> Items<'a> {
             return Err(Difference::Unreadable);
         };
         hex::decode_to_slice(digits, space).map_err(|_| Difference::Unreadable)?;
-        bytes.try_extend_from_slice(space).map_err(|_| Difference::Unreadable)?;
+        bytes
+            .try_extend_from_slice(space)
+            .map_err(|_| Difference::Unreadable)?;
         Ok(bytes)
     }
 }
