@@ -14,7 +14,8 @@ pub const PLACES: usize = 12;
 // One less than the least diameter.
 const BELOW_LEAST: u32 = 5;
 
-// A table of bolt sizes. Only the first `count` places are looked at.
+// A table of bolt sizes. Only the first `count` places are looked at. Two runs of places, as the words of a table lie in C: Work reads them
+// where they are lent.
 #[derive(Clone, Copy)]
 pub struct BoltTable {
     // sizes; of a table that is taken 1 to 12

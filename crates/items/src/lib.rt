@@ -102,7 +102,7 @@ pub fn put_numbers<S: Sink>(sink: &mut S, numbers: &[u64])
     }
 }
 
-// Hands over letters as items.
+// Hands over letters as items: one function with the numbers' would take a closure for its second line, and be no plainer.
 pub fn put_letters<S: Sink>(sink: &mut S, letters: &[u8])
     requires { S.has_room sink.old (spaced (map letter letters.now)) }
     ensures { S.takes sink.old (spaced (map letter letters.now)) sink.new }

@@ -99,7 +99,8 @@ pub struct Loads {
     pub moment: u32,
 }
 
-// One face of the column, with the beam on it.
+// One face of the column, with the beam on it. Grades, class and flag are numbers, as every field is: the rules take any joint, and refusal
+// 10 tells what is out of range.
 #[derive(Clone, Copy)]
 pub struct Face {
     // 1: count of bolt rows n, 1 to 8; a joint's first face has it as stored, raised by 16 where a second face follows

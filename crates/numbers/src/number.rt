@@ -13,7 +13,8 @@ pub enum NumberRefusal {
     WrongForm,
 }
 
-// A number that was read, and the place after its last byte.
+// A number that was read, and the place after its last byte: by the project's rule an answer has the next place, so places go on from number
+// to number, and no part of the bytes.
 #[derive(Clone, Copy)]
 pub struct Number {
     pub value: u32,
@@ -23,7 +24,8 @@ pub struct Number {
 // The greatest fifth byte: it has the highest four of 32 bits.
 const GREATEST_FIFTH: u32 = 15;
 
-// Reads the number that begins at `from`. `value` is what the groups before `at` make, and `scale` what the next one counts.
+// Reads the number that begins at `from`. `value` is what the groups before `at` make, and `scale` what the next one counts. By index: over
+// the part of the bytes from `from` on, reading takes a tenth longer.
 pub fn number_at(bytes: &[u8], from: usize) -> Result<Number, NumberRefusal>
     ensures { NumberRead bytes.now from result }
 {

@@ -101,7 +101,8 @@ fn lines_size(input: &[u8]) -> usize
     counter.count
 }
 
-// Hands over all lines. A joint that can't be read is the last. The bound keeps the joints' count in range.
+// Hands over all lines. A joint that can't be read is the last. The bound keeps the joints' count in range. Not by `for`: where the next
+// joint begins is known once the one before is read.
 fn put_joints<S: Sink>(sink: &mut S, input: &[u8])
     requires few { length input.now ≤ most_input }
     requires room { S.has_room sink.old (concatenated (lines_of 1 input.now)) }

@@ -148,7 +148,8 @@ impl Dimensions {
         }
     }
 
-    // The limits of the groups that begin at a row, from the shortest to the longest. They have their places from `first` on.
+    // The limits of the groups that begin at a row, from the shortest to the longest. They have their places from `first` on. By
+    // index: a turn asks for the lever, the count of rows and the place by it.
     fn fill_row(
         &self,
         rows: usize,
