@@ -2,8 +2,8 @@
 // column and the bolts stand, field k is at place k - 1. The second face has 1, 2, 6, 7 and 14 to 29 of its own, one after another.
 #![tactic(auto)]
 
-ghost use Rattle.std.specs.Prelude.{◌≡◌};
-ghost use Rattle.fields.specs.Fields.{axial_of, stored_axial, column_of, bolts_of, beam_of, plate_of, layout_of, welds_of};
+ghost use Rattle.std.specs.Prelude.{◌≡◌, ◌≤◌, length};
+ghost use Rattle.fields.specs.Fields.{field_count, axial_of, stored_axial, column_of, bolts_of, beam_of, plate_of, layout_of, welds_of};
 ghost use Rattle.fields.specs.Fields.{loads_of, face_of, first_face_of, joint_of, fields_of, own_of};
 ghost use Rattle.fields.specs.Places.{PlacesWithin};
 
@@ -38,7 +38,8 @@ pub fn stored_axial(axial: i32) -> u32
 }
 
 // Fields 5, 8 to 13 and 30.
-pub fn column_of(fields: &[u32; FIELD_COUNT]) -> Column
+pub fn column_of(fields: &[u32]) -> Column
+    requires { field_count ≤ length fields.now }
     ensures { result ≡ column_of fields.now }
 {
     Column {
@@ -54,7 +55,8 @@ pub fn column_of(fields: &[u32; FIELD_COUNT]) -> Column
 }
 
 // Fields 3 and 4.
-pub fn bolts_of(fields: &[u32; FIELD_COUNT]) -> Bolts
+pub fn bolts_of(fields: &[u32]) -> Bolts
+    requires { field_count ≤ length fields.now }
     ensures { result ≡ bolts_of fields.now }
 {
     Bolts {
