@@ -35,9 +35,9 @@ pub fn run_read(items: &mut Items, kind: FileKind) -> Result<(), Difference> {
     let should = in_long_form::<READ_NUMBERS>(&answer, SHORT_JOINT + 2)?;
     let numbers = read_numbers(&file, kind);
     compare(&numbers, &should)?;
-    let Some((_, after)) = file.split_at_checked(numbers[1] as usize) else {
-        return Err(Difference::Bytes);
-    };
+    let (_, after) = file
+        .split_at_checked(numbers[1] as usize)
+        .ok_or(Difference::Bytes)?;
     compare_bytes(jointfile::rest(&file, kind), after)
 }
 
@@ -52,19 +52,16 @@ fn written_numbers(joint: [u32; JOINT_WORDS], buffer: &mut [u8]) -> [u64; 2] {
 // Writes the joint to a buffer of the size that comes after it, each byte 165 before the call, in hexadecimal a5.
 pub fn run_write(items: &mut Items) -> Result<(), Difference> {
     let given = items.given()?;
-    let Some((size, joint)) = given.split_last() else {
-        return Err(Difference::Unreadable);
-    };
+    let (size, joint) = given.split_last().ok_or(Difference::Unreadable)?;
     let joint = joint_words(joint)?;
-    let (Some(refusal), Some(length)) = (items.number(), items.number()) else {
-        return Err(Difference::Unreadable);
-    };
+    let refusal = items.number().ok_or(Difference::Unreadable)?;
+    let length = items.number().ok_or(Difference::Unreadable)?;
     let left = items.bytes()?;
     items.end()?;
     let mut space = [165u8; 512];
-    let Some(buffer) = space.get_mut(..*size as usize) else {
-        return Err(Difference::Unreadable);
-    };
+    let buffer = space
+        .get_mut(..*size as usize)
+        .ok_or(Difference::Unreadable)?;
     compare(&written_numbers(joint, buffer), &[refusal, length])?;
     compare_bytes(buffer, &left)
 }

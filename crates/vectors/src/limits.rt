@@ -17,9 +17,7 @@ fn allocated_numbers(count: usize, limits: &[u64]) -> [u64; 9] {
 
 pub fn run(items: &mut Items) -> Result<(), Difference> {
     let sides = items.sides()?;
-    let Some((count, limits)) = sides.given.split_first() else {
-        return Err(Difference::Unreadable);
-    };
+    let (count, limits) = sides.given.split_first().ok_or(Difference::Unreadable)?;
     if MOST_LIMITS < limits.len() {
         return Err(Difference::Unreadable);
     }

@@ -62,9 +62,7 @@ fn head_and_joint(
     given: &[u64],
     size: usize,
 ) -> Result<([u32; CELL_HEAD], [u32; JOINT_WORDS]), Difference> {
-    let Some((head, joint)) = given.split_at_checked(size) else {
-        return Err(Difference::Unreadable);
-    };
+    let (head, joint) = given.split_at_checked(size).ok_or(Difference::Unreadable)?;
     if joint.len() != SHORT_JOINT {
         return Err(Difference::Unreadable);
     }
@@ -80,9 +78,9 @@ pub fn run_cell(items: &mut Items, near: bool) -> Result<(), Difference> {
     let numbers = worked_numbers(built_in(), joint);
     compare(&numbers[..SHORT_OUTCOME], &sides.answer)?;
     let place = (head[4] as usize).checked_sub(1);
-    let Some(worked) = place.and_then(|place| numbers.get(place).copied()) else {
-        return Err(Difference::Unreadable);
-    };
+    let worked = place
+        .and_then(|place| numbers.get(place).copied())
+        .ok_or(Difference::Unreadable)?;
     let figure = Figure::of(&head);
     if figure.is_near(worked) == near {
         return Ok(());
@@ -104,9 +102,7 @@ fn bolts_under(joint: [u32; JOINT_WORDS], shear: u32) -> u64 {
 pub fn run_shear(items: &mut Items) -> Result<(), Difference> {
     let sides = items.sides()?;
     let (head, joint) = head_and_joint(&sides.given, SHEAR_HEAD)?;
-    let Some((least, most)) = Figure::of(&head).ends() else {
-        return Err(Difference::Unreadable);
-    };
+    let (least, most) = Figure::of(&head).ends().ok_or(Difference::Unreadable)?;
     compare(
         &[bolts_under(joint, least), bolts_under(joint, most)],
         &sides.answer,

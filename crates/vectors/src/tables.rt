@@ -40,8 +40,9 @@ pub fn run_load(items: &mut Items) -> Result<(), Difference> {
 
 pub fn run_own(items: &mut Items) -> Result<(), Difference> {
     let sides = items.sides()?;
-    let Some((table, joint)) = sides.given.split_at_checked(TABLE_WORDS) else {
-        return Err(Difference::Unreadable);
-    };
+    let (table, joint) = sides
+        .given
+        .split_at_checked(TABLE_WORDS)
+        .ok_or(Difference::Unreadable)?;
     joints::compare_working(table_from(table)?, joint, &sides.answer)
 }
