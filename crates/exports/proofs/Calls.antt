@@ -8,8 +8,8 @@ use mathlib.Core.Bool.{Bool, true, false, cond, ◌&&◌, and-eq-true_iff}
 use native.Mathlib.Omega.{arith}
 use borrow.Author.Tests.{le-leb, leb-true}
 use lib.Dec.{leb, eqb}
-use lib.ListN.{length, get_or, take, drop, length-append, length-take, length-drop}
-use lib.Seq.{get_or-set_other, get_or-take, take_at, drop_at, take-append-le, get_or-append-add, length-take-le}
+use lib.ListN.{length, get_or, take, drop, length-append, length-drop}
+use lib.Seq.{get_or-set_other, get_or-take, take_at, drop_at, get_or-append-add, length-take-le}
 use Rattle.arithmetic.specs.Checks.{Check, first_failing}
 use Rattle.arithmetic.proofs.Checks.{one_after_another}
 use Rattle.buffers.specs.Put.{at_front}
@@ -23,8 +23,6 @@ use Rattle.joint.specs.declared.Joint.{Joint}
 use Rattle.joint.specs.Fields.{lever_checks, fixed_checks, field_checks, FieldCheck, field_check, outside, field_of}
 use Rattle.fields.specs.Fields.{field_count, own_count, joint_of}
 use Rattle.jointfile.specs.Write.{Writing, turned_down, writing}
-use Rattle.sharing.specs.Groups.{Table}
-use Rattle.sharing.specs.Best.{Best}
 use Rattle.outcome.specs.Outcome.{Outcome, FaceOutcome}
 use Rattle.outcome.specs.declared.FaceResult.{FaceResult}
 use Rattle.connection.specs.OneFace.{bolt_of}
@@ -166,13 +164,6 @@ module _ (table : BoltTable) (joint : Joint) {column : Column} {bolts : Bolts} {
       demand_alone (area_of table joint.bolts.diameter) joint outcome alone same
 
 -- ---- what stands at the front, at exit
-
--- the best forces of some rows among eight places are the first places
-pub best_front : (limit : Table) (count : ℕ) (eight forces : List ℕ) → length eight ≡ 8 → Best limit count (take count eight)
-    → Best limit count (take count (at_front eight forces))
-best_front limit count eight forces size best =
-    let few : count ≤ length eight = omega (arith, best.competes.rows, length-take count eight) in
-    rw (take-append-le count eight (drop (length eight) forces) few) best
 
 -- a face's words, with any after them
 module _ (result : FaceResult) (rest : List ℕ) (eight : length result.forces ≡ 8) where
