@@ -26,23 +26,30 @@ use spacing::Spacing;
 use strength::{BoltStrengths, SteelStrengths};
 use verdicts::Tally;
 
+// What the faces of a joint share: the column, and the bolts with the area that a bolt table lists for their diameter.
+#[derive(Clone, Copy)]
+pub struct SharedParts {
+    pub column: Column,
+    pub bolts: Bolts,
+    pub area: Option<u32>,
+    ghost area_in_range: { AreaInRange bolts.diameter area },
+}
+
 // Works any face on its column: the whole result, or the first refusal in their order that holds. Panel shear counts in the cap, or not.
-// The row forces are the best there are: demand 3, in specs/Demand.antt. Open for Work and the exported calls, which have the area from a
-// bolt table.
+// The row forces are the best there are: demand 3, in specs/Demand.antt. Open for Work and the exported calls.
 pub fn work_connection(
     panel_counts: bool,
-    column: Column,
-    bolts: Bolts,
-    area: Option<u32>,
+    shared: &SharedParts,
     face: Face,
 ) -> Result<FaceResult, FaceRefusal>
-    requires { AreaInRange bolts.diameter area }
-    ensures equals { face_meaning result ≡ worked_connection panel_counts column bolts area face }
-    ensures demand { IfOk result (λ worked. Demand3For panel_counts column bolts area face worked) }
+    ensures equals { face_meaning result
+        ≡ worked_connection panel_counts shared.now.column shared.now.bolts shared.now.area face }
+    ensures demand { IfOk result
+        (λ worked. Demand3For panel_counts shared.now.column shared.now.bolts shared.now.area face worked) }
 {
-    joint::check_fields(column, bolts, area, face)?;
-    let bolt = strength::bolt_strengths(bolts, area.unwrap_or(0));
-    FaceAtWork::new(column, bolt, face).work(panel_counts)
+    joint::check_fields(shared.column, shared.bolts, shared.area, face)?;
+    let bolt = strength::bolt_strengths(shared.bolts, shared.area.unwrap_or(0));
+    FaceAtWork::new(shared.column, bolt, face).work(panel_counts)
 }
 
 // A face in range on its column, with the figures of its bolts, and what is measured of it before it is admitted: the distances about its

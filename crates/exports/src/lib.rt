@@ -22,6 +22,7 @@ ghost use Rattle.exports.specs.Answers.{answer_number, answers};
 ghost use Rattle.exports.specs.Calls.{allocating, kind_of, reading_into, writing_into, built_in_into, loading_into, working_into};
 ghost use Rattle.exports.specs.Calls.{Demand3OfWords, sheeting_into};
 
+use connection::SharedParts;
 use joint::is_two_faced;
 use jointfile::FileKind;
 use outcome::{JointRefusal, RefusedFace, Worked};
@@ -178,7 +179,12 @@ fn work_words(table: &[u32], fields: &[u32]) -> Result<Worked, JointRefusal>
         face,
     } = words::joints::one_faced_of(fields);
     let area = words::tables::area_of(table, bolts.diameter);
-    match connection::work_connection(true, column, bolts, area, face) {
+    let shared = SharedParts {
+        column,
+        bolts,
+        area,
+    };
+    match connection::work_connection(true, &shared, face) {
         Ok(result) => Ok(Worked {
             result,
             second: None,

@@ -11,8 +11,8 @@ ghost use Rattle.work.specs.Work.{panel_verdict, worked_faces, worked_with, work
 ghost use Rattle.work.specs.Demand.{FacesDemand3, Demand3With, Demand3Of};
 
 use bolttable::BoltTable;
-use connection::work_connection;
-use joint::{Bolts, Column, Face, Joint, Loads};
+use connection::{SharedParts, work_connection};
+use joint::{Column, Face, Joint, Loads};
 use outcome::{JointRefusal, RefusedFace, SecondFace, Worked};
 
 // Works any joint with any bolt table in force: the whole result, or the first refusal in their order that holds. The row forces are the
@@ -31,16 +31,19 @@ pub fn work_with(area: Option<u32>, joint: Joint) -> Result<Worked, JointRefusal
     ensures demand { OnOk result (Demand3With area joint (outcome_meaning result)) }
 {
     let face = joint.face;
+    let shared = SharedParts {
+        column: joint.column,
+        bolts: joint.bolts,
+        area,
+    };
     if joint::is_two_faced(face.rows) {
         let first = joint::first_face(face);
-        return work_faces(joint.column, joint.bolts, area, first, joint.other);
+        return work_faces(&shared, first, joint.other);
     }
-    let result = work_connection(true, joint.column, joint.bolts, area, face).map_err(
-        |refusal| JointRefusal {
-            refusal,
-            face: RefusedFace::Only,
-        },
-    )?;
+    let result = work_connection(true, &shared, face).map_err(|refusal| JointRefusal {
+        refusal,
+        face: RefusedFace::Only,
+    })?;
     Ok(Worked {
         result,
         second: None,
@@ -48,28 +51,21 @@ pub fn work_with(area: Option<u32>, joint: Joint) -> Result<Worked, JointRefusal
 }
 
 // Both faces, the first before the second. Panel shear counts in neither's cap.
-fn work_faces(
-    column: Column,
-    bolts: Bolts,
-    area: Option<u32>,
-    first: Face,
-    second: Face,
-) -> Result<Worked, JointRefusal>
-    requires { AreaInRange bolts.diameter area }
-    ensures equals { outcome_meaning result ≡ worked_faces column bolts area first second }
-    ensures demand { OnOk result (FacesDemand3 column bolts area first second (outcome_meaning result)) }
+fn work_faces(shared: &SharedParts, first: Face, second: Face) -> Result<Worked, JointRefusal>
+    ensures equals { outcome_meaning result
+        ≡ worked_faces shared.now.column shared.now.bolts shared.now.area first second }
+    ensures demand { OnOk result
+        (FacesDemand3 shared.now.column shared.now.bolts shared.now.area first second (outcome_meaning result)) }
 {
-    let one = work_connection(false, column, bolts, area, first).map_err(|refusal| JointRefusal {
+    let one = work_connection(false, shared, first).map_err(|refusal| JointRefusal {
         refusal,
         face: RefusedFace::First,
     })?;
-    let two = work_connection(false, column, bolts, area, second).map_err(
-        |refusal| JointRefusal {
-            refusal,
-            face: RefusedFace::Second,
-        },
-    )?;
-    let panel_passes = panel_passes(column, one.sum, first.loads, two.sum, second.loads);
+    let two = work_connection(false, shared, second).map_err(|refusal| JointRefusal {
+        refusal,
+        face: RefusedFace::Second,
+    })?;
+    let panel_passes = panel_passes(shared.column, one.sum, first.loads, two.sum, second.loads);
     Ok(Worked {
         result: one,
         second: Some(SecondFace {

@@ -11,8 +11,8 @@ use Rattle.exports.proofs.work_words.Goals as goal
 pub work_with-requires : goal.work_with-requires
 work_with-requires c = rw c.area_of-area.ensures (area_in_range _ _)
 
-pub work_connection-requires : goal.work_connection-requires
-work_connection-requires c = rw c.area_of-area-2.ensures (area_in_range _ _)
+pub invariant_of-shared : goal.invariant_of-shared
+invariant_of-shared c = record { area_in_range = rw c.area_of-area-2.ensures (area_in_range _ _) }
 
 pub returns-in-Ok-clause-equals : goal.returns-in-Ok-clause-equals
 returns-in-Ok-clause-equals c =
