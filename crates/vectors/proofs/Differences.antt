@@ -1,14 +1,11 @@
 -- What a loop that compares two lists place by place knows. Assumes nothing.
-use Prim.Native.Nat.{ℕ, suc, ◌+◌, ◌≤◌, ◌<◌}
+use Prim.Native.Nat.{ℕ, suc, ◌+◌}
 use mathlib.Core.Path.{◌≡◌, refl, sym, ◌∙◌}
-use mathlib.Core.Bool.{cond}
-use mathlib.Core.List.{List}
+use mathlib.Core.Logic.{◌⊎◌, inl, inr}
+use mathlib.Core.List.{List, [], ◌∷◌}
 use native.Mathlib.Numerals.{add-one}
-use native.Mathlib.Omega.{arith}
 use Rattle.std.specs.Prelude.{Ok, Err}
-use lib.Dec.{eqb}
-use lib.ListN.{length, get_or, drop, drop_of_length-le}
-use lib.Seq.{drop-cons}
+use lib.ListN.{length}
 use borrow.Author.Tests.{eq-eqb, ne_eqb}
 use Rattle.vectors.specs.declared.compare.Difference.TheVariants.{Item, Unreadable}
 use Rattle.vectors.specs.Difference.{first_difference, compared}
@@ -17,38 +14,27 @@ pub lengths_differ : (are should : List ℕ) → (length are ≡ length should �
 unfolding compared
 lengths_differ are should differ = rw (ne_eqb (length are) (length should) differ) refl
 
+-- the answer is that of what is left of the lists, whose first places have the number after `place`
+abbrev pub Left : (are should : List ℕ) (place : ℕ) (left expected : List ℕ) → Type 0
+Left are should place left expected = compared are should ≡ first_difference (suc place) left expected
+
 module _ (are should : List ℕ) where
-  -- the lists are as long as each other, and the answer is that of the places from i on
-  pub record Head (i : ℕ) : Type 0 where
-    pub few : i ≤ length are
-    pub alike : length are ≡ length should
-    pub answer : compared are should ≡ first_difference (suc i) (drop i are) (drop i should)
-
-  pub head_none : length are ≡ length should → Head 0
+  pub none_passed : length are ≡ length should → (place : ℕ) (left expected : List ℕ) → place ≡ 0 → left ≡ are → expected ≡ should → Left are should place left expected
   unfolding compared
-  head_none e = record { few = omega arith; alike = e; answer = rw (eq-eqb (length are) (length should) e) refl }
+  none_passed e place left expected p a b = rw (p, a, b, eq-eqb (length are) (length should) e) refl
 
-  -- the answer by the numbers at place i
-  at_place : (i : ℕ) → Head i → i < length are
-      → compared are should
-      ≡ cond (eqb (get_or are i 0) (get_or should i 0)) (first_difference (suc (suc i)) (drop (suc i) are) (drop (suc i) should))
-      (Err (Item (suc i) (get_or are i 0) (get_or should i 0)))
+  -- a turn of the loop, which takes a number off each list
+  module _ (place x y : ℕ) (xs ys left expected : List ℕ) (before : Left are should place left expected) (a : left ≡ x ∷ xs) (b : expected ≡ y ∷ ys) where
+    pub one_alike : x ≡ y → Left are should (place + 1) xs ys
+    unfolding first_difference
+    one_alike e = before ∙ rw (a, b, eq-eqb x y e, add-one) refl
+
+    pub one_differs : (x ≡ y → ⊥) → Err (Item (place + 1) x y) ≡ compared are should
+    unfolding first_difference
+    one_differs differ = sym (before ∙ rw (a, b, ne_eqb x y differ, add-one) refl)
+
+  pub all_alike : (place : ℕ) (left expected : List ℕ) → Left are should place left expected → (left ≡ []) ⊎ (expected ≡ []) → Ok tt ≡ compared are should
   unfolding first_difference
-  at_place i head more =
-      let there : i < length should = omega (arith, head.alike) in
-      head.answer ∙ rw (drop-cons are i 0 more, drop-cons should i 0 there) refl
-
-  pub head_more : (i : ℕ) → Head i → i < length are → get_or are i 0 ≡ get_or should i 0 → Head (i + 1)
-  head_more i head more e = record {
-    few = omega arith;
-    alike = head.alike;
-    answer = at_place i head more ∙ rw (eq-eqb _ _ e, add-one) refl;
-  }
-
-  pub head_differs : (i : ℕ) → Head i → i < length are → (get_or are i 0 ≡ get_or should i 0 → ⊥)
-      → Err (Item (i + 1) (get_or are i 0) (get_or should i 0)) ≡ compared are should
-  head_differs i head more differ = sym (at_place i head more ∙ rw (ne_eqb _ _ differ, add-one) refl)
-
-  pub head_done : (i : ℕ) → Head i → length are ≤ i → Ok tt ≡ compared are should
-  unfolding first_difference
-  head_done i head done = sym (head.answer ∙ rw (drop_of_length-le are done) refl)
+  all_alike place left expected before (inl none) = sym (before ∙ rw none refl)
+  all_alike place [] expected before (inr none) = sym before
+  all_alike place (x ∷ xs) expected before (inr none) = sym (before ∙ rw none refl)

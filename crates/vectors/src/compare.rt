@@ -39,12 +39,12 @@ pub fn compare(are: &[u64], should: &[u64]) -> Result<(), Difference>
     if are.len() != should.len() {
         return Err(Difference::Unreadable);
     }
-    for (place, is) in are.iter().enumerate() {
-        if *is != should[place] {
+    for (place, (is, should)) in are.iter().zip(should).enumerate() {
+        if *is != *should {
             return Err(Difference::Item {
                 item: place as u64 + 1,
                 is: *is,
-                should: should[place],
+                should: *should,
             });
         }
     }

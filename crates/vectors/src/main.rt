@@ -42,8 +42,8 @@ fn run_line(line: &[u8]) -> Result<(), Difference> {
     let items = &mut items;
     match word {
         b"allocate" => limits::run(items),
-        b"cell" => printed::run_cell(items, true),
-        b"exception" => printed::run_cell(items, false),
+        b"cell" => printed::run_cell(items),
+        b"exception" => printed::run_exception(items),
         b"load" => tables::run_load(items),
         b"own" => tables::run_own(items),
         b"old" => files::run_read(items, FileKind::Old),

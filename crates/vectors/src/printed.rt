@@ -9,11 +9,6 @@ use crate::reader::{Items, put_words};
 use bolttable::built_in;
 use words::joints::JOINT_WORDS;
 
-// The numbers that stand before the joint of a cell and of a shear capacity.
-const CELL_HEAD: usize = 5;
-
-const SHEAR_HEAD: usize = 4;
-
 // Where V, field 28, stands among a joint's words, and the verdict on the bolts among the numbers of what it comes to.
 const SHEAR: usize = 27;
 
@@ -28,15 +23,6 @@ struct Figure {
 }
 
 impl Figure {
-    // Of the numbers at the head of a line, the first of which is LINE.
-    fn of(head: &[u32; CELL_HEAD]) -> Figure {
-        Figure {
-            count: head[1],
-            printed: head[2],
-            tolerance: head[3],
-        }
-    }
-
     fn total(self) -> u64 {
         u64::from(self.count) * u64::from(self.printed)
     }
@@ -56,39 +42,75 @@ impl Figure {
     }
 }
 
-// The numbers of a line's left side, cut into those at its head, of which a shear capacity has one less, and those of a joint in the short
-// form.
-fn head_and_joint(
+// The numbers of a line's left side, cut into those at its head and those of a joint in the short form.
+fn head_and_joint<const HEAD: usize>(
     given: &[u64],
-    size: usize,
-) -> Result<([u32; CELL_HEAD], [u32; JOINT_WORDS]), Difference> {
-    let (head, joint) = given.split_at_checked(size).ok_or(Difference::Unreadable)?;
+) -> Result<([u32; HEAD], [u32; JOINT_WORDS]), Difference> {
+    let (head, joint) = given.split_at_checked(HEAD).ok_or(Difference::Unreadable)?;
     if joint.len() != SHORT_JOINT {
         return Err(Difference::Unreadable);
     }
-    let mut words = [0u32; CELL_HEAD];
+    let mut words = [0u32; HEAD];
     put_words(head, &mut words)?;
     Ok((words, joint_words(joint)?))
 }
 
-// A cell, or with `near` false an exception: the number at a place, counted from 1, is near the printed figure, as it must be or must not be.
-pub fn run_cell(items: &mut Items, near: bool) -> Result<(), Difference> {
-    let sides = items.sides()?;
-    let (head, joint) = head_and_joint(&sides.given, CELL_HEAD)?;
-    let numbers = worked_numbers(built_in(), joint);
-    compare(&numbers[..SHORT_OUTCOME], &sides.answer)?;
-    let place = (head[4] as usize).checked_sub(1);
-    let worked = place
-        .and_then(|place| numbers.get(place).copied())
-        .ok_or(Difference::Unreadable)?;
-    let figure = Figure::of(&head);
-    if figure.is_near(worked) == near {
-        return Ok(());
+// A printed figure, and what Work gives in its place.
+#[derive(Clone, Copy)]
+struct Cell {
+    figure: Figure,
+    worked: u64,
+}
+
+impl Cell {
+    // Works the line's joint, and takes the number at the line's place, counted from 1.
+    fn read(items: &mut Items) -> Result<Cell, Difference> {
+        let sides = items.sides()?;
+        let ([_, count, printed, tolerance, place], joint) = head_and_joint::<5>(&sides.given)?;
+        let numbers = worked_numbers(built_in(), joint);
+        compare(&numbers[..SHORT_OUTCOME], &sides.answer)?;
+        let worked = (place as usize)
+            .checked_sub(1)
+            .and_then(|place| numbers.get(place).copied())
+            .ok_or(Difference::Unreadable)?;
+        let figure = Figure {
+            count,
+            printed,
+            tolerance,
+        };
+        Ok(Cell { figure, worked })
     }
-    Err(Difference::OffPrint {
-        worked,
-        printed: figure.total(),
-    })
+
+    fn is_near(self) -> bool {
+        self.figure.is_near(self.worked)
+    }
+
+    fn off_print(self) -> Difference {
+        Difference::OffPrint {
+            worked: self.worked,
+            printed: self.figure.total(),
+        }
+    }
+}
+
+// A cell: what Work gives is near the printed figure.
+pub fn run_cell(items: &mut Items) -> Result<(), Difference> {
+    let cell = Cell::read(items)?;
+    if cell.is_near() {
+        Ok(())
+    } else {
+        Err(cell.off_print())
+    }
+}
+
+// An exception: it is known not to be.
+pub fn run_exception(items: &mut Items) -> Result<(), Difference> {
+    let cell = Cell::read(items)?;
+    if cell.is_near() {
+        Err(cell.off_print())
+    } else {
+        Ok(())
+    }
 }
 
 // The verdict on the bolts under a shear force.
@@ -101,8 +123,13 @@ fn bolts_under(joint: [u32; JOINT_WORDS], shear: u32) -> u64 {
 // The bolts' verdicts under the least and the greatest shear force that so many of a printed capacity stand for.
 pub fn run_shear(items: &mut Items) -> Result<(), Difference> {
     let sides = items.sides()?;
-    let (head, joint) = head_and_joint(&sides.given, SHEAR_HEAD)?;
-    let (least, most) = Figure::of(&head).ends().ok_or(Difference::Unreadable)?;
+    let ([_, count, printed, tolerance], joint) = head_and_joint::<4>(&sides.given)?;
+    let figure = Figure {
+        count,
+        printed,
+        tolerance,
+    };
+    let (least, most) = figure.ends().ok_or(Difference::Unreadable)?;
     compare(
         &[bolts_under(joint, least), bolts_under(joint, most)],
         &sides.answer,
