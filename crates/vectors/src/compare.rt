@@ -51,11 +51,12 @@ pub fn compare(are: &[u64], should: &[u64]) -> Result<(), Difference>
     Ok(())
 }
 
+// Nothing where a test holds, and a difference where it doesn't.
+pub fn hold(test: bool, difference: Difference) -> Result<(), Difference> {
+    if test { Ok(()) } else { Err(difference) }
+}
+
 // Compares bytes that a call hands back or leaves.
 pub fn compare_bytes(are: &[u8], should: &[u8]) -> Result<(), Difference> {
-    if are == should {
-        Ok(())
-    } else {
-        Err(Difference::Bytes)
-    }
+    hold(are == should, Difference::Bytes)
 }

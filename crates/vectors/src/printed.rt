@@ -3,7 +3,7 @@
 // it is known not to; `shear LINE COUNT PRINTED TOLERANCE J = pass pass` is a capacity that shows in the verdict on the bolts alone.
 // LINE is where the figure stands in P207's text, COUNT how many of what is printed the joint has, and PLACE which of the answer's numbers
 // it is.
-use crate::compare::{Difference, compare};
+use crate::compare::{Difference, compare, hold};
 use crate::joints::{SHORT_JOINT, SHORT_OUTCOME, joint_words, worked_numbers};
 use crate::reader::{Items, put_words};
 use bolttable::built_in;
@@ -96,21 +96,13 @@ impl Cell {
 // A cell: what Work gives is near the printed figure.
 pub fn run_cell(items: &mut Items) -> Result<(), Difference> {
     let cell = Cell::read(items)?;
-    if cell.is_near() {
-        Ok(())
-    } else {
-        Err(cell.off_print())
-    }
+    hold(cell.is_near(), cell.off_print())
 }
 
 // An exception: it is known not to be.
 pub fn run_exception(items: &mut Items) -> Result<(), Difference> {
     let cell = Cell::read(items)?;
-    if cell.is_near() {
-        Err(cell.off_print())
-    } else {
-        Ok(())
-    }
+    hold(!cell.is_near(), cell.off_print())
 }
 
 // The verdict on the bolts under a shear force.

@@ -1,6 +1,6 @@
 // The items of a line of text, each with one space before it: numbers in base ten, and bytes in hexadecimal. Safe on any line: what can't
 // be read is told.
-use crate::compare::Difference;
+use crate::compare::{Difference, hold};
 use arrayvec::ArrayVec;
 use std::str;
 
@@ -38,20 +38,13 @@ impl<'a> Items<'a> {
 
     // Passes the ` =` that parts what a call is handed from what it must answer.
     pub fn equals(&mut self) -> Result<(), Difference> {
-        if self.pass(b" =") {
-            Ok(())
-        } else {
-            Err(Difference::Unreadable)
-        }
+        hold(self.pass(b" ="), Difference::Unreadable)
     }
 
     // That the line has been read to its end, or to the ` //` of a note.
     pub fn end(&self) -> Result<(), Difference> {
-        if self.left.is_empty() || self.left.starts_with(b" //") {
-            Ok(())
-        } else {
-            Err(Difference::Unreadable)
-        }
+        let ends = self.left.is_empty() || self.left.starts_with(b" //");
+        hold(ends, Difference::Unreadable)
     }
 
     // The number whose digits stand next.
