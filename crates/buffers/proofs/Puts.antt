@@ -36,13 +36,6 @@ put_both {buffer} {between} {exit} {xs} {ys} {from} first second =
       stores = second.stores ∙ rw (first.stores, first.place) (sym (sets-append buffer from xs ys));
     }
 
-pub put_byte : (buffer : List ℕ) (from byte : ℕ) → Put buffer from (byte ∷ []) (set buffer from byte) (from + 1)
-put_byte buffer from byte = record { place = refl; stores = refl }
-
--- the same, with the next place in the code's words
-pub put_byte_to : (buffer : List ℕ) (from byte next : ℕ) → next ≡ from + 1 → Put buffer from (byte ∷ []) (set buffer from byte) next
-put_byte_to buffer from byte next place = record { place = place; stores = refl }
-
 pub put_none : (buffer : List ℕ) (from : ℕ) → Put buffer from [] buffer from
 put_none buffer from = record { place = sym (add-zero from); stores = refl }
 

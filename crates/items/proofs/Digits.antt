@@ -9,7 +9,8 @@ use native.Mathlib.Numerals.{add-one}
 use lib.ListN.{length, set, length-append}
 use lib.Seq.{sets}
 use Rattle.arithmetic.proofs.Tests.{split}
-use Rattle.buffers.specs.Put.{Put}
+use Rattle.buffers.specs.declared.Writer.{Writer}
+use Rattle.buffers.specs.Writing.{Puts}
 use Rattle.buffers.proofs.Puts.{sets_last}
 use Rattle.items.specs.Digits.{digit, digits, decimal}
 use Rattle.items.proofs.Numerals.{digits_last, digits_more}
@@ -33,33 +34,37 @@ digits_lowest (suc most) n =
     (ap (λ (ds : List ℕ). ds ++ (digit (n % 10) ∷ [])) (digits_lowest most (n / 10))))
     (split n 10)
 
--- The digits of `left` that are still to be put go from `from` up to `at`.
-pub record DigitsHead (buffer₀ : List ℕ) (from n : ℕ) (buffer : List ℕ) (at left : ℕ) : Type 0 where
-  pub within : from ≤ at
-  pub writes : sets buffer from (lowest (at - from) left) ≡ sets buffer₀ from (decimal n)
+-- The digits of `left` that are still to be put go from the writer's place, which stays, up to `at`.
+pub record DigitsHead (begun : Writer) (n : ℕ) (writer : Writer) (at left : ℕ) : Type 0 where
+  pub same : writer.buffer.ghost_name ≡ begun.buffer.ghost_name
+  pub within : begun.at ≤ at
+  pub writes : sets writer.buffer.now begun.at (lowest (at - begun.at) left) ≡ sets begun.buffer.now begun.at (decimal n)
 
-pub digits_none : (buffer : List ℕ) (from n count : ℕ) → count ≡ length (decimal n) → DigitsHead buffer from n buffer (from + count) n
-digits_none buffer from n count all =
-    let places : from + count - from ≡ length (decimal n) = omega (arith, all) in
-    record { within = omega arith; writes = rw places (ap (sets buffer from) (sym (digits_lowest 20 n))) }
+pub digits_none : (writer : Writer) (n count : ℕ) → count ≡ length (decimal n) → DigitsHead writer n writer (writer.at + count) n
+digits_none writer n count all =
+    let places : writer.at + count - writer.at ≡ length (decimal n) = omega (arith, all) in
+    record { same = refl; within = omega arith; writes = rw places (ap (sets writer.buffer.now writer.at) (sym (digits_lowest 20 n))) }
 
-module _ {buffer₀ : List ℕ} {from n : ℕ} {buffer : List ℕ} {at left : ℕ} (head : DigitsHead buffer₀ from n buffer at left) where
-  pub digits_put : at ≤ from → Put buffer₀ from (decimal n) buffer (from + length (decimal n))
+module _ {begun : Writer} {n : ℕ} {writer : Writer} {at left : ℕ} (head : DigitsHead begun n writer at left) where
+  pub digits_put : (count : ℕ) → count ≡ length (decimal n) → at ≤ begun.at
+      → Puts begun (decimal n) (record { buffer = writer.buffer; at = begun.at + count })
   unfolding lowest
-  digits_put done =
-      let none : at - from ≡ 0 = omega arith in
-      record { place = refl; stores = rw none at head.writes }
+  digits_put count all done =
+      let none : at - begun.at ≡ 0 = omega arith in
+      record { same = head.same; put = record { place = ap (λ (k : ℕ). begun.at + k) all; stores = rw none at head.writes } }
 
-  pub digits_more_put : from < at → DigitsHead buffer₀ from n (set buffer (at - 1) (48 + left % 10)) (at - 1) (left / 10)
+  pub digits_more_put : {after : Writer} → begun.at < at → after.buffer.ghost_name ≡ writer.buffer.ghost_name
+      → after.buffer.now ≡ set writer.buffer.now (at - 1) (48 + left % 10) → DigitsHead begun n after (at - 1) (left / 10)
   unfolding lowest
-  digits_more_put more =
-      let places : at - from ≡ suc (at - 1 - from) = omega arith in
-      let rest = lowest (at - 1 - from) (left / 10) in
-      let last : at - 1 ≡ from + length rest = omega (arith, lowest_length (at - 1 - from) (left / 10)) in
+  digits_more_put more same stored =
+      let places : at - begun.at ≡ suc (at - 1 - begun.at) = omega arith in
+      let rest = lowest (at - 1 - begun.at) (left / 10) in
+      let last : at - 1 ≡ begun.at + length rest = omega (arith, lowest_length (at - 1 - begun.at) (left / 10)) in
       record {
+        same = same ∙ head.same;
         within = omega arith;
         writes =
-            ap (λ (place : ℕ). sets (set buffer place (digit (left % 10))) from rest) last
-            ∙ sym (sets_last buffer from rest (digit (left % 10)))
+            rw stored (ap (λ (place : ℕ). sets (set writer.buffer.now place (digit (left % 10))) begun.at rest) last)
+            ∙ sym (sets_last writer.buffer.now begun.at rest (digit (left % 10)))
             ∙ (rw places at head.writes);
       }

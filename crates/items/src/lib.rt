@@ -59,7 +59,7 @@ impl<'a> Sink for Writer<'a> {
     }
 
     fn number(&mut self, n: u64) {
-        self.at = put_number(self.buffer, self.at, n);
+        put_number(self, n);
     }
 }
 

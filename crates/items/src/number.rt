@@ -1,7 +1,9 @@
 // A number as text in base ten.
-ghost use Rattle.std.specs.Prelude.{◌≡◌, ◌+◌, ◌≤◌, length};
-ghost use Rattle.buffers.specs.Put.{Put};
+ghost use Rattle.std.specs.Prelude.{◌≡◌, length};
+ghost use Rattle.buffers.specs.Writing.{Puts, HasRoom};
 ghost use Rattle.items.specs.Digits.{decimal};
+
+use buffers::Writer;
 
 // How many digits a number has: one more than the power of ten that it reaches.
 pub fn digit_count(n: u64) -> usize
@@ -10,16 +12,17 @@ pub fn digit_count(n: u64) -> usize
     n.max(1).ilog10() as usize + 1
 }
 
-// Writes a number's digits from `from` on, the lowest first and so from their end, and answers the place after them.
-pub fn put_number(buffer: &mut [u8], from: usize, n: u64) -> usize
-    requires { from + length (decimal n) ≤ length buffer.old }
-    ensures { Put buffer.old from (decimal n) buffer.new result }
+// Puts a number's digits, the lowest first and so from their end. By index, since of what `iter_mut` wrote in reverse a proof knows only the
+// length.
+pub fn put_number(writer: &mut Writer, n: u64)
+    requires { HasRoom writer.old (length (decimal n)) }
+    ensures { Puts writer.old (decimal n) writer.new }
 {
-    let next = from + digit_count(n);
+    let next = writer.at + digit_count(n);
     let mut left = n;
-    for at in (from..next).rev() {
-        buffer[at] = b'0' + (left % 10) as u8;
+    for at in (writer.at..next).rev() {
+        writer.buffer[at] = b'0' + (left % 10) as u8;
         left /= 10;
     }
-    next
+    writer.at = next;
 }

@@ -8,7 +8,7 @@ use lib.Dec.{eqb}
 use native.Mathlib.Omega.{arith}
 use native.Mathlib.Numerals.{add-one}
 use native.Mathlib.Nat.{pow-suc}
-use lib.ListN.{length, get_or, drop, length-append, drop_of_length-le}
+use lib.ListN.{length, get_or, drop, drop_of_length-le}
 use lib.Seq.{drop-cons}
 use Rattle.std.specs.List.{list_all}
 use Rattle.buffers.specs.declared.Writer.{Writer}
@@ -60,10 +60,6 @@ pub stored_next : (values : List ℕ) (i : ℕ) → i < length values
     → stored_all (drop i values) ≡ stored (get_or values i 0) ++ stored_all (drop (i + 1) values)
 unfolding stored_all
 stored_next values i inside = rw (add-one, drop-cons values i 0)
-
-pub size_next : (values : List ℕ) (i : ℕ) → i < length values
-    → length (stored_all (drop i values)) ≡ length (stored (get_or values i 0)) + length (stored_all (drop (i + 1) values))
-size_next values i inside = rw (stored_next values i inside) (length-append (stored (get_or values i 0)) (stored_all (drop (i + 1) values)))
 
 pub stored_end : (values : List ℕ) (i : ℕ) → length values ≤ i → stored_all (drop i values) ≡ []
 unfolding stored_all

@@ -52,14 +52,12 @@ pub fn number_at(bytes: &[u8], from: usize) -> Result<Number, NumberRefusal>
     Err(NumberRefusal::BytesEnd)
 }
 
-// The count of bytes in a number's stored form: one, and one more for each seven bits that it reaches past.
+// The count of bytes in a number's stored form: one more than the power of 128 that the number reaches.
+#[tactic(auto, using(crate::proofs::Sizes::stored_length))]
 pub fn stored_length(x: u32) -> usize
     ensures { result ≡ length (stored x) }
 {
-    1 + usize::from(128 <= x)
-        + usize::from(16384 <= x)
-        + usize::from(2097152 <= x)
-        + usize::from(268435456 <= x)
+    x.max(1).ilog2() as usize / 7 + 1
 }
 
 // Puts a number's stored form. `put_numbers` shows that there is room.

@@ -24,11 +24,7 @@ pub fn numbers_at(bytes: &[u8], from: usize, values: &mut [u32]) -> Result<usize
 pub fn stored_size(values: &[u32]) -> usize
     ensures { result ≡ length (stored_all values.now) }
 {
-    let mut size = 0;
-    for number in values {
-        size += stored_length(*number);
-    }
-    size
+    values.iter().map(|x| stored_length(*x)).sum()
 }
 
 // Puts the stored forms of the numbers. The crate of joint files shows that there is room.

@@ -1,24 +1,23 @@
--- `run::stored_size` meets its contract: the size so far and that of the numbers left make the whole. Assumes nothing.
-use mathlib.Core.Path.{ap}
-use native.Mathlib.Omega.{arith}
-use lib.ListN.{length}
-use Rattle.numbers.proofs.Puts.{size_next, stored_end}
-use Rattle.numbers.proofs.Sizes.{stored_all_short}
+-- `run::stored_size` meets its contract: the sizes of the numbers are those of their stored forms, and their sum is that of the whole.
+-- Assumes nothing.
+use Rattle.std.proofs.Common.{ℕ, length, rules, tests, arith, ◌∙◌}
+use Rattle.std.proofs.lemmas.Iterator.{YieldsList-from_slice, YieldsList-from_map}
+use Rattle.std.proofs.lemmas.Iterator.Consumers.{sum_by_from_yields_List, fits_by_from_yields_list}
+use Rattle.numbers.specs.Number.{stored}
+use Rattle.numbers.proofs.Sizes.{stored_all_short, stored_all_sizes}
 use Rattle.numbers.proofs.run.stored_size.Goals as goal
 
-pub overflow_add-size : goal.overflow_add-size
-overflow_add-size c =
-    let numbers = c.args.values.now in
-    omega (
-      arith,
-      size_next numbers c.loop-number.number-index c.loop-number-test.true,
-      c.stored_length-size.ensures,
-      stored_all_short numbers,
-      c.well_formed,
-    )
+abbrev size : ℕ → ℕ
+size x = length (stored x)
 
-pub loop-number-preserved : goal.loop-number-preserved
-loop-number-preserved c = omega (arith, size_next c.args.values.now c.loop-number.number-index c.loop-number-test.true, c.stored_length-size.ensures)
+pub sum-requires-clause-fits : goal.sum-requires-clause-fits
+sum-requires-clause-fits c =
+    fits_by_from_yields_list size c.args.values.now c.map.result _
+    (YieldsList-from_map _ size (YieldsList-from_slice c.args.values.now cc) c.map.ensures.closure (λ x r q k. search (rules, tests)))
+    (omega (arith, stored_all_sizes c.args.values.now, stored_all_short c.args.values.now, c.well_formed))
 
 pub returns : goal.returns
-returns c = omega (arith, ap length (stored_end c.args.values.now c.loop-number.number-index c.loop-number-test.false))
+returns c =
+    sum_by_from_yields_List size c.args.values.now c.map.result _ c.sum.ensures.ran
+    (YieldsList-from_map _ size (YieldsList-from_slice c.args.values.now cc) c.map.ensures.closure (λ x r q k. search (rules, tests)))
+    ∙ stored_all_sizes c.args.values.now
