@@ -6,7 +6,7 @@ use mathlib.Core.List.{List, [], ◌∷◌, ◌++◌}
 use native.Mathlib.Omega.{arith}
 use native.Mathlib.Nat.{add-zero, zero-add}
 use lib.ListN.{length, set, length-append}
-use lib.Seq.{sets, sets-eq, length-sets, set_comm}
+use lib.Seq.{sets, sets-eq, length-sets}
 use Rattle.buffers.specs.Put.{at_front, Put}
 
 pub sets-append : (l : List ℕ) (i : ℕ) (xs ys : List ℕ) → sets l i (xs ++ ys) ≡ sets (sets l i xs) (i + length xs) ys
@@ -14,15 +14,6 @@ sets-append l i [] ys = rw add-zero
 sets-append l i (x ∷ xs) ys =
     let place : i + suc (length xs) ≡ suc i + length xs = omega arith in
     rw place (sets-append (set l i x) (suc i) xs ys)
-
--- the last of a run may be stored before the others
-pub sets_last : (l : List ℕ) (i : ℕ) (xs : List ℕ) (y : ℕ) → sets l i (xs ++ (y ∷ [])) ≡ sets (set l (i + length xs) y) i xs
-sets_last l i [] y = rw add-zero
-sets_last l i (x ∷ xs) y =
-    let place : i + suc (length xs) ≡ suc i + length xs = omega arith in
-    rw place
-    (sets_last (set l i x) (suc i) xs y
-    ∙ ap (λ (m : List ℕ). sets m (suc i) xs) (set_comm l i (suc i + length xs) x y (λ e. omega arith)))
 
 -- bytes stored from the first place on stand at the front
 pub sets_front : (bytes buffer : List ℕ) → length bytes ≤ length buffer → sets buffer 0 bytes ≡ at_front bytes buffer

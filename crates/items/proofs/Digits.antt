@@ -2,16 +2,18 @@
 -- Assumes nothing.
 use Prim.Native.Nat.{ℕ, zero, suc, ◌+◌, ◌-◌, ◌/◌, ◌%◌, ◌≤◌, ◌<◌}
 use mathlib.Core.Path.{◌≡◌, refl, sym, ap, ◌∙◌}
-use mathlib.Core.List.{List, [], ◌∷◌, ◌++◌}
+use mathlib.Core.List.{List, [], ◌∷◌, ◌++◌, append_assoc, append-nil}
 use mathlib.Core.Logic.{⊎_elim}
 use native.Mathlib.Omega.{arith}
 use native.Mathlib.Numerals.{add-one}
-use lib.ListN.{length, set, length-append}
-use lib.Seq.{sets}
+use lib.ListN.{length, set, drop, length-append, length-set, drop_of_length-le}
+use Rattle.std.proofs.lemmas.List.{drop-set}
+use lib.Seq.{sets-eq, drop-drop}
 use Rattle.arithmetic.proofs.Tests.{split}
 use Rattle.buffers.specs.declared.Writer.{Writer}
-use Rattle.buffers.specs.Writing.{Puts}
-use Rattle.buffers.proofs.Puts.{sets_last}
+use Rattle.buffers.specs.Put.{Put}
+use Rattle.buffers.specs.Writing.{HasRoom}
+use borrow.Rule.Slice.PartMut.{put_mid}
 use Rattle.items.specs.Digits.{digit, digits, decimal}
 use Rattle.items.proofs.Numerals.{digits_last, digits_more}
 
@@ -19,11 +21,6 @@ use Rattle.items.proofs.Numerals.{digits_last, digits_more}
 unfoldable pub lowest : (count n : ℕ) → List ℕ
 lowest zero n = []
 lowest (suc count) n = lowest count (n / 10) ++ (digit (n % 10) ∷ [])
-
-lowest_length : (count n : ℕ) → length (lowest count n) ≡ count
-unfolding lowest
-lowest_length zero n = refl
-lowest_length (suc count) n = rw length-append (omega (arith, lowest_length count (n / 10)))
 
 digits_lowest : (most n : ℕ) → digits most n ≡ lowest (length (digits most n)) n
 unfolding digits lowest
@@ -34,37 +31,40 @@ digits_lowest (suc most) n =
     (ap (λ (ds : List ℕ). ds ++ (digit (n % 10) ∷ [])) (digits_lowest most (n / 10))))
     (split n 10)
 
--- The digits of `left` that are still to be put go from the writer's place, which stays, up to `at`.
-pub record DigitsHead (begun : Writer) (n : ℕ) (writer : Writer) (at left : ℕ) : Type 0 where
-  pub same : writer.buffer.ghost_name ≡ begun.buffer.ghost_name
-  pub within : begun.at ≤ at
-  pub writes : sets writer.buffer.now begun.at (lowest (at - begun.at) left) ≡ sets begun.buffer.now begun.at (decimal n)
+-- The digits of `left` that are still to be put, so many as there are places before `at`, and those that stand from there on.
+pub record DigitsHead (n : ℕ) (part : List ℕ) (at left : ℕ) : Type 0 where
+  pub within : at ≤ length part
+  pub makes : lowest at left ++ drop at part ≡ decimal n
 
-pub digits_none : (writer : Writer) (n count : ℕ) → count ≡ length (decimal n) → DigitsHead writer n writer (writer.at + count) n
-digits_none writer n count all =
-    let places : writer.at + count - writer.at ≡ length (decimal n) = omega (arith, all) in
-    record { same = refl; within = omega arith; writes = rw places (ap (sets writer.buffer.now writer.at) (sym (digits_lowest 20 n))) }
+pub digits_none : (n : ℕ) (part : List ℕ) → length part ≡ length (decimal n) → DigitsHead n part (length part) n
+digits_none n part all =
+    record { within = omega arith; makes = rw (drop_of_length-le part {i = length part} (omega arith), append-nil, all) (sym (digits_lowest 20 n)) }
 
-module _ {begun : Writer} {n : ℕ} {writer : Writer} {at left : ℕ} (head : DigitsHead begun n writer at left) where
-  pub digits_put : (count : ℕ) → count ≡ length (decimal n) → at ≤ begun.at
-      → Puts begun (decimal n) (record { buffer = writer.buffer; at = begun.at + count })
-  unfolding lowest
-  digits_put count all done =
-      let none : at - begun.at ≡ 0 = omega arith in
-      record { same = head.same; put = record { place = ap (λ (k : ℕ). begun.at + k) all; stores = rw none at head.writes } }
+pub digits_more_put : {n : ℕ} {part : List ℕ} {at left : ℕ} → DigitsHead n part at left → 0 < at
+    → DigitsHead n (set part (at - 1) (48 + left % 10)) (at - 1) (left / 10)
+unfolding lowest
+digits_more_put {n} {part} {at} {left} head more =
+    let one_more : at ≡ suc (at - 1) = omega arith in
+    let next : at - 1 + 1 ≡ at = omega arith in
+    let last : lowest at left ≡ lowest (at - 1) (left / 10) ++ (digit (left % 10) ∷ []) = ap (λ (count : ℕ). lowest count left) one_more in
+    record {
+      within = omega (arith, head.within, length-set part (at - 1) (48 + left % 10));
+      makes =
+          rw (drop-set part (at - 1) (48 + left % 10) (omega (arith, head.within)), next)
+          (sym (append_assoc (lowest (at - 1) (left / 10)) (digit (left % 10) ∷ []) (drop at part)) ∙ (rw last at head.makes));
+    }
 
-  pub digits_more_put : {after : Writer} → begun.at < at → after.buffer.ghost_name ≡ writer.buffer.ghost_name
-      → after.buffer.now ≡ set writer.buffer.now (at - 1) (48 + left % 10) → DigitsHead begun n after (at - 1) (left / 10)
-  unfolding lowest
-  digits_more_put more same stored =
-      let places : at - begun.at ≡ suc (at - 1 - begun.at) = omega arith in
-      let rest = lowest (at - 1 - begun.at) (left / 10) in
-      let last : at - 1 ≡ begun.at + length rest = omega (arith, lowest_length (at - 1 - begun.at) (left / 10)) in
-      record {
-        same = same ∙ head.same;
-        within = omega arith;
-        writes =
-            rw stored (ap (λ (place : ℕ). sets (set writer.buffer.now place (digit (left % 10))) begun.at rest) last)
-            ∙ sym (sets_last writer.buffer.now begun.at rest (digit (left % 10)))
-            ∙ (rw places at head.writes);
-      }
+-- a part of the writer's buffer that has all the digits is what was to be put
+pub digits_put : {n left count : ℕ} {part : List ℕ} {at : ℕ} (writer : Writer) → DigitsHead n part at left → at ≤ 0
+    → count ≡ length (decimal n) → HasRoom writer (length (decimal n))
+    → Put writer.buffer.now writer.at (decimal n) (put_mid writer.at (writer.at + count - writer.at) writer.buffer.now part) (writer.at + count)
+unfolding lowest
+digits_put {n} {left} {count} {part} {at} writer head done all room =
+    let none : at ≡ 0 = omega arith in
+    let whole : part ≡ decimal n = rw none at head.makes in
+    let size : writer.at + count - writer.at ≡ length (decimal n) = omega (arith, all) in
+    record {
+      place = ap (λ (k : ℕ). writer.at + k) all;
+      stores = rw (whole, size, drop-drop)
+          (sym (sets-eq (decimal n) writer.buffer.now writer.at room ∙ append_assoc _ (decimal n) _));
+    }

@@ -19,9 +19,10 @@ pub fn put_number(writer: &mut Writer, n: u64)
     ensures { Puts writer.old (decimal n) writer.new }
 {
     let next = writer.at + digit_count(n);
+    let digits = &mut writer.buffer[writer.at..next];
     let mut left = n;
-    for at in (writer.at..next).rev() {
-        writer.buffer[at] = b'0' + (left % 10) as u8;
+    for at in (0..digits.len()).rev() {
+        digits[at] = b'0' + (left % 10) as u8;
         left /= 10;
     }
     writer.at = next;

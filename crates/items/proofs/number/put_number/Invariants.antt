@@ -3,4 +3,4 @@ use Rattle.items.proofs.Digits.{DigitsHead}
 use Rattle.items.proofs.number.put_number.Given as goal
 
 abbrev pub invariant-loop-at : goal.invariant-loop-at
-invariant-loop-at l = DigitsHead l.initial.writer l.n l.writer l.at l.left
+invariant-loop-at l = DigitsHead l.n l.digits l.at l.left
