@@ -35,30 +35,6 @@ from_first (size ∷ sizes) own =
     let low = (size_ranges size (and_yes (size_in_range size) (each_size size_in_range sizes) own).0).0.low in
     rw (lt-ltb below_least size.diameter (omega arith))
 
--- ---- what the tests answer
-
-module _ (sizes : List Size) where
-  pub by_16 : each_size size_in_range sizes ≡ false → Refused 16 ≡ sizes_check sizes
-  unfolding sizes_check first_failing
-  by_16 outside = rw outside
-
-  module _ (own : each_size size_in_range sizes ≡ true) where
-    rises : rise_above below_least sizes ≡ diameters_rise sizes
-    rises = from_first sizes (rw own tt)
-
-    pub by_17 : rise_above below_least sizes ≡ false → Refused 17 ≡ sizes_check sizes
-    unfolding sizes_check first_failing
-    by_17 e = rw (own, ← rises, e)
-
-    module _ (rise : rise_above below_least sizes ≡ true) where
-      pub by_18 : each_size area_fits sizes ≡ false → Refused 18 ≡ sizes_check sizes
-      unfolding sizes_check first_failing
-      by_18 e = rw (own, ← rises, rise, e)
-
-      pub by_none : each_size area_fits sizes ≡ true → Taken ≡ sizes_check sizes
-      unfolding sizes_check first_failing
-      by_none e = rw (own, ← rises, rise, e)
-
 -- ---- one size after another
 
 -- what the sizes before a place leave of the tests: of the ranges nothing, and of the others whether they passed
@@ -67,13 +43,11 @@ pub record Passed (sizes left : List Size) (last : ℕ) (rise fit : Bool) : Type
   pub rises : rise_above below_least sizes ≡ (rise && rise_above last left)
   pub fits : each_size area_fits sizes ≡ (fit && each_size area_fits left)
 
-pub none_passed : (sizes : List Size) → Passed sizes sizes below_least true true
-none_passed sizes = record { ranges = refl; rises = refl; fits = refl }
-
 module _ {sizes left : List Size} {last : ℕ} {rise fit : Bool} (p : Passed sizes left last rise fit) where
   -- the next size is out of range
-  pub one_outside : {size : Size} {rest : List Size} → left ≡ size ∷ rest → size_in_range size ≡ false → each_size size_in_range sizes ≡ false
-  one_outside e outside = p.ranges ∙ (rw (e, outside))
+  pub one_outside : {size : Size} {rest : List Size} → left ≡ size ∷ rest → size_in_range size ≡ false → Refused 16 ≡ sizes_check sizes
+  unfolding sizes_check first_failing
+  one_outside e outside = rw (p.ranges, e, outside)
 
   -- or it isn't, and its other tests are kept
   pub one_more : {size : Size} {rest : List Size} → left ≡ size ∷ rest → size_in_range size ≡ true
@@ -86,14 +60,10 @@ module _ {sizes left : List Size} {last : ℕ} {rise fit : Bool} (p : Passed siz
         fits = p.fits ∙ (rw e) ∙ sym (and_assoc fit (area_fits size) (each_size area_fits rest));
       }
 
-  -- after the last
-  module _ (end : left ≡ []) where
-    pub all_inside : each_size size_in_range sizes ≡ true
-    all_inside = p.ranges ∙ (rw end)
-
-    pub all_rise : rise_above below_least sizes ≡ rise
-    unfolding rise_above
-    all_rise = p.rises ∙ (rw end) ∙ and-true rise
-
-    pub all_fit : each_size area_fits sizes ≡ fit
-    all_fit = p.fits ∙ (rw end) ∙ and-true fit
+  -- after the last the tests that were kept decide
+  pub none_after : left ≡ [] → sizes_check sizes ≡ first_failing Taken Refused ((17, rise) ∷ (18, fit) ∷ [])
+  unfolding sizes_check first_failing rise_above
+  none_after end =
+      let own : each_size size_in_range sizes ≡ true = p.ranges ∙ (rw end) in
+      let rises : rise_above below_least sizes ≡ rise = p.rises ∙ (rw end) ∙ and-true rise in
+      rw (own, ← from_first sizes (rw own tt), rises, p.fits ∙ (rw end) ∙ and-true fit)

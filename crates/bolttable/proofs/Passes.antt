@@ -119,7 +119,7 @@ yes false t = absurd t
 
 module _ (diameter : ℕ) where
   -- nothing where some size may not follow
-  broken : (last found : ℕ) (sizes : List Size) → chain last sizes ≡ false → area_passed diameter last found sizes ≡ None
+  broken : (last : ℕ) (found : Option ℕ) (sizes : List Size) → chain last sizes ≡ false → area_passed diameter last found sizes ≡ None
   unfolding area_passed chain
   broken last found [] e = let never : ◌≡◌ {A = ℕ} 0 1 = cc in absurd (omega arith)
   broken last found (size ∷ sizes) e = go (may_follow last size) e (broken size.diameter _ sizes)
@@ -130,32 +130,31 @@ module _ (diameter : ℕ) where
       go false e others = refl
 
   -- an area that was found before stays, since every diameter left is greater
-  kept : (last found : ℕ) (sizes : List Size) → T (chain last sizes) → 0 < found → diameter ≤ last
-      → area_passed diameter last found sizes ≡ Some found
+  kept : (last area : ℕ) (sizes : List Size) → T (chain last sizes) → diameter ≤ last
+      → area_passed diameter last (Some area) sizes ≡ Some area
   unfolding area_passed chain
-  kept last found [] t some past = rw (ne_eqb found 0 (omega arith))
-  kept last found (size ∷ sizes) t some past =
+  kept last area [] t past = refl
+  kept last area (size ∷ sizes) t past =
       let both = and_yes (may_follow last size) (chain size.diameter sizes) t in
       let above = (follows last size both.0).above in
       rw (yes (may_follow last size) both.0, ne_eqb diameter size.diameter (omega arith))
-      (kept size.diameter found sizes both.1 some (omega arith))
+      (kept size.diameter area sizes both.1 (omega arith))
 
   -- and else it is the first that has the diameter
-  found_first : (last : ℕ) (sizes : List Size) → T (chain last sizes) → area_passed diameter last 0 sizes ≡ area_among diameter sizes
+  found_first : (last : ℕ) (sizes : List Size) → T (chain last sizes) → area_passed diameter last None sizes ≡ area_among diameter sizes
   unfolding area_passed chain area_among
   found_first last [] t = refl
   found_first last (size ∷ sizes) t =
       let both = and_yes (may_follow last size) (chain size.diameter sizes) t in
-      let some = (follows last size both.0).some_area in
       rw (yes (may_follow last size) both.0)
       (go (eqb diameter size.diameter) refl
-      (λ same. kept size.diameter size.area sizes both.1 (omega arith) (omega (arith, same)))
+      (λ same. kept size.diameter size.area sizes both.1 (omega (arith, same)))
       (found_first size.diameter sizes both.1))
     where
       go : (same : Bool) → eqb diameter size.diameter ≡ same
-          → (diameter ≡ size.diameter → area_passed diameter size.diameter size.area sizes ≡ Some size.area)
-          → area_passed diameter size.diameter 0 sizes ≡ area_among diameter sizes
-          → area_passed diameter size.diameter (cond same size.area 0) sizes
+          → (diameter ≡ size.diameter → area_passed diameter size.diameter (Some size.area) sizes ≡ Some size.area)
+          → area_passed diameter size.diameter None sizes ≡ area_among diameter sizes
+          → area_passed diameter size.diameter (cond same (Some size.area) None) sizes
           ≡ cond same (Some size.area) (area_among diameter sizes)
       go true e here others = here (eqb-true diameter size.diameter e)
       go false e here others = others
@@ -185,7 +184,7 @@ module _ (table : BoltTable) (counted : within size_counts table.count ≡ true)
       })
 
   -- so the pass finds what the table lists
-  pub passed : (diameter : ℕ) → area_passed diameter below_least 0 (counted_sizes table) ≡ area_of table diameter
+  pub passed : (diameter : ℕ) → area_passed diameter below_least None (counted_sizes table) ≡ area_of table diameter
   passed diameter = by_chain (chain below_least (counted_sizes table)) refl
     where
       by_check : (check : TableCheck) → table_check table ≡ check → chain below_least (counted_sizes table) ≡ false
@@ -194,11 +193,11 @@ module _ (table : BoltTable) (counted : within size_counts table.count ≡ true)
       by_check (Refused number) e no-chain = if_refused table diameter e
 
       by_chain : (test : Bool) → chain below_least (counted_sizes table) ≡ test
-          → area_passed diameter below_least 0 (counted_sizes table) ≡ area_of table diameter
+          → area_passed diameter below_least None (counted_sizes table) ≡ area_of table diameter
       by_chain true e =
           let t = subst (λ (b : Bool). T b) (sym e) tt in
           found_first diameter below_least (counted_sizes table) t ∙ if_taken table diameter (chain_taken t)
-      by_chain false e = broken diameter below_least 0 (counted_sizes table) e ∙ by_check (table_check table) refl e
+      by_chain false e = broken diameter below_least None (counted_sizes table) e ∙ by_check (table_check table) refl e
 
 -- a table whose count is out of range lists nothing
 pub uncounted : (table : BoltTable) (diameter : ℕ) → within size_counts table.count ≡ false → None ≡ area_of table diameter
@@ -207,7 +206,7 @@ uncounted table diameter bad = if_refused table diameter {number = 16} (rw bad)
 
 -- ---- one size after another
 
-module _ (diameter last found : ℕ) {sizes : List Size} where
+module _ (diameter last : ℕ) (found : Option ℕ) {sizes : List Size} where
   module _ {size : Size} {rest : List Size} (left : sizes ≡ size ∷ rest) where
     pub stops : may_follow last size ≡ false → area_passed diameter last found sizes ≡ None
     unfolding area_passed
@@ -215,10 +214,10 @@ module _ (diameter last found : ℕ) {sizes : List Size} where
 
     pub goes_on : may_follow last size ≡ true
         → area_passed diameter last found sizes
-        ≡ area_passed diameter size.diameter (cond (eqb diameter size.diameter) size.area found) rest
+        ≡ area_passed diameter size.diameter (cond (eqb diameter size.diameter) (Some size.area) found) rest
     unfolding area_passed
     goes_on e = ap (area_passed diameter last found) left ∙ (rw e)
 
-  pub none_left : sizes ≡ [] → area_passed diameter last found sizes ≡ cond (eqb found 0) None (Some found)
+  pub none_left : sizes ≡ [] → area_passed diameter last found sizes ≡ found
   unfolding area_passed
   none_left end = ap (area_passed diameter last found) end

@@ -1,11 +1,22 @@
 -- The sizes that a table counts, place by place. By recursion to the place. Assumes nothing.
 use mathlib.Core.Path.{◌≡◌, refl, ap, ◌∙◌}
-use mathlib.Core.List.{List, [], ◌∷◌}
+use mathlib.Core.List.{List, [], ◌∷◌, ◌++◌}
 use Prim.Native.Nat.{ℕ, zero, suc, ◌+◌, ◌<◌, min}
 use native.Mathlib.Nat.{le_of_suc-le-suc}
 use native.Mathlib.Numerals.{add-one}
 use native.Mathlib.Omega.{arith}
 use lib.ListN.{length, get_or, drop, take}
+use denote.Ref.{Bor}
+use Rattle.std.specs.Prelude.{Option, Some, None}
+use Rattle.std.specs.declared.iter.Zip.{Zip}
+use Rattle.std.specs.declared.slice.Iter.{Iter}
+use Rattle.std.specs.Iterator.{Yields}
+use Rattle.std.specs.Iterator.Adapters.{zip_first, zip_second}
+use Rattle.std.specs.Slice.Iter.{iter_rest}
+use Rattle.std.proofs.iter.Yields.{fronts}
+use Rattle.std.proofs.lemmas.Iterator.{zips}
+use Rattle.std.proofs.lemmas.List.{length_push}
+use Rattle.std.proofs.lemmas.Slice.Zip.{zip_turn, zip_end}
 use Rattle.bolttable.specs.Loading.{sizes_in}
 use Rattle.bolttable.specs.Steps.{all_sizes}
 
@@ -37,6 +48,21 @@ sizes_end (diameter ∷ diameters) [] (suc place) past = refl
 sizes_end (diameter ∷ diameters) (area ∷ areas) zero past = absurd (omega arith)
 sizes_end (diameter ∷ diameters) (area ∷ areas) (suc place) past =
     sizes_end diameters areas place (omega arith)
+
+-- ---- a loop over both lists
+
+module _ (diameters areas : List ℕ) (turns : List (Bor ℕ × Bor ℕ)) (s t u : Zip (Iter ℕ) (Iter ℕ)) {r : Option (Bor ℕ × Bor ℕ)}
+    (first : iter_rest (zip_first s) ≡ diameters) (second : iter_rest (zip_second s) ≡ areas) (turned : Yields (zips fronts fronts) s turns t)
+    (step : zips fronts fronts t r u) where
+  -- the turn's size stands before those that are left after it
+  pub next_size : {p : Bor ℕ × Bor ℕ} → r ≡ Some p
+      → drop (length turns) (all_sizes diameters areas)
+      ≡ record { diameter = p.0.now; area = p.1.now } ∷ drop (length (turns ++ (p ∷ []))) (all_sizes diameters areas)
+  next_size {p} is = rw (length_push turns p) (sizes_from diameters areas _ (zip_turn diameters areas turns s t u r first second turned p is step))
+
+  -- after the last turn none is left
+  pub no_size : r ≡ None → drop (length turns) (all_sizes diameters areas) ≡ []
+  no_size is = sizes_end diameters areas _ (zip_end diameters areas turns s t u r first second turned is step)
 
 -- the first so many places, lent
 pub first_sizes : (count : ℕ) (diameters areas : List ℕ)

@@ -5,3 +5,4 @@ pub mod Loading
 pub mod Area
 pub mod InRange
 pub mod Steps
+pub mod Lent

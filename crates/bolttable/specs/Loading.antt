@@ -82,6 +82,7 @@ number_of OutOfRange = 16
 number_of DiametersDontRise = 17
 number_of AreaTooLarge = 18
 
+-- what a checked table's result says
 abbrev pub check_meaning : Result (Unit {0}) TableRefusal → TableCheck
 check_meaning (Ok done) = Taken
 check_meaning (Err refusal) = Refused (number_of refusal)
@@ -95,6 +96,7 @@ pub record Loading : Type 0 where
   pub refusal : ℕ
   pub table : BoltTable
 
+-- what a loaded table's result says, with the table that is then in force
 abbrev pub loading_meaning : Result (Unit {0}) TableRefusal → (in_force : BoltTable) → Loading
 loading_meaning (Ok done) in_force = record { refusal = 0; table = in_force }
 loading_meaning (Err refusal) in_force = record { refusal = number_of refusal; table = in_force }

@@ -29,10 +29,10 @@ may_follow last size =
     (ltb last size.diameter && leb size.diameter bolt_diameters.high)
     && (leb 1 size.area && leb (100 * size.area) (785 * size.diameter * size.diameter))
 
--- the area of the size with the diameter, where `found` is that of the sizes before, 0 as long as there was none
-unfoldable pub area_passed : (diameter last found : ℕ) → List Size → Option ℕ
-area_passed diameter last found [] = cond (eqb found 0) None (Some found)
+-- the area of the size with the diameter, where `found` is what the sizes before come to
+unfoldable pub area_passed : (diameter last : ℕ) (found : Option ℕ) → List Size → Option ℕ
+area_passed diameter last found [] = found
 area_passed diameter last found (size ∷ sizes) =
     cond (may_follow last size)
-    (area_passed diameter size.diameter (cond (eqb diameter size.diameter) size.area found) sizes)
+    (area_passed diameter size.diameter (cond (eqb diameter size.diameter) (Some size.area) found) sizes)
     None

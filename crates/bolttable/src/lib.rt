@@ -2,7 +2,7 @@
 // diameter: everything after that goes by figures.
 #![tactic(auto)]
 
-ghost use Rattle.std.specs.Prelude.{◌≡◌};
+ghost use Rattle.std.specs.Prelude.{◌≡◌, None};
 ghost use Rattle.arithmetic.specs.Range.{within};
 ghost use Rattle.bolttable.specs.Loading.{number_of, size_counts, size_in_range, check_meaning, table_check, loading_meaning, loaded, built_in};
 ghost use Rattle.bolttable.specs.Area.{area_of};
@@ -55,51 +55,89 @@ pub fn built_in() -> BoltTable
 }
 
 // Loads a table: it is then in force, or, where it isn't taken, the one before.
-pub fn load(in_force: &mut BoltTable, table: BoltTable) -> Result<(), TableRefusal>
-    ensures { loading_meaning result in_force.new ≡ loaded in_force.old table }
+#[tactic(auto, unfolding(crate::specs::Loading::loaded))]
+pub fn load(in_force: &mut BoltTable, table: &BoltTable) -> Result<(), TableRefusal>
+    ensures { loading_meaning result in_force.new ≡ loaded in_force.old table.now }
 {
-    check_table(&table)?;
-    *in_force = table;
+    table.lent().check()?;
+    *in_force = *table;
     Ok(())
 }
 
 // The area that a table lists for a diameter, in tenths of mm².
-pub fn area_of(table: BoltTable, diameter: u32) -> Option<u32>
-    ensures { result ≡ area_of table diameter }
+pub fn area_of(table: &BoltTable, diameter: u32) -> Option<u32>
+    ensures { result ≡ area_of table.now diameter }
 {
-    area_in(table.count, &table.diameters, &table.areas, diameter)
+    table.lent().area_of(diameter)
 }
 
-// The area that a table lists for a diameter, its places lent. Open for `words`, which lends twelve of each.
-pub fn area_in(count: u32, diameters: &[u32], areas: &[u32], diameter: u32) -> Option<u32>
-    requires { Places diameters.now areas.now }
-    ensures { result
-        ≡ area_of (record { count = count; diameters = diameters.now; areas = areas.now }) diameter }
-{
-    if !is_size_count(count) {
-        return None;
+impl BoltTable {
+    ghost use Rattle.bolttable.specs.Lent.{table_of};
+
+    // The table with its places lent.
+    pub fn lent(&self) -> LentTable<'_>
+        ensures { table_of result ≡ self.now }
+    {
+        LentTable {
+            count: self.count,
+            diameters: &self.diameters,
+            areas: &self.areas,
+        }
     }
-    let count = count as usize;
-    area_among(&diameters[..count], &areas[..count], diameter)
+}
+
+// A table whose places are lent, as those of the words of a table: nothing is copied to check it or to search it.
+#[derive(Clone, Copy)]
+pub struct LentTable<'a> {
+    pub count: u32,
+    pub diameters: &'a [u32],
+    pub areas: &'a [u32],
+    pub ghost places: { Places diameters.now areas.now },
+}
+
+impl LentTable<'_> {
+    ghost use Rattle.bolttable.specs.Lent.{table_of};
+
+    // The area that the table lists for a diameter, in tenths of mm².
+    pub fn area_of(self, diameter: u32) -> Option<u32>
+        ensures { result ≡ area_of (table_of self.entry) diameter }
+    {
+        if !is_size_count(self.count) {
+            return None;
+        }
+        let count = self.count as usize;
+        area_among(&self.diameters[..count], &self.areas[..count], diameter)
+    }
+
+    // Whether the table is taken, or why it isn't.
+    pub fn check(self) -> Result<(), TableRefusal>
+        ensures { check_meaning result ≡ table_check (table_of self.entry) }
+    {
+        if !is_size_count(self.count) {
+            return Err(TableRefusal::OutOfRange);
+        }
+        let counted = self.count as usize;
+        check_sizes(&self.diameters[..counted], &self.areas[..counted])
+    }
 }
 
 // The area of the size with the diameter. Work asks for it each time, so the sizes are tested and searched in one pass, which doesn't tell
 // by which number a table is refused.
 fn area_among(diameters: &[u32], areas: &[u32], diameter: u32) -> Option<u32>
-    ensures { result ≡ area_passed diameter below_least 0 (all_sizes diameters.now areas.now) }
+    ensures { result ≡ area_passed diameter below_least None (all_sizes diameters.now areas.now) }
 {
-    let mut found = 0;
+    let mut found = None;
     let mut last = BELOW_LEAST;
     for (next, area) in diameters.iter().zip(areas) {
         if !may_follow(last, *next, *area) {
             return None;
         }
         if diameter == *next {
-            found = *area;
+            found = Some(*area);
         }
         last = *next;
     }
-    if found == 0 { None } else { Some(found) }
+    found
 }
 
 // Whether a size may come after one with the diameter `last`, or after none. That a diameter is 6 or more and an area at most 40000 needs no
@@ -110,25 +148,14 @@ fn may_follow(last: u32, diameter: u32, area: u32) -> bool
     if !((last < diameter) & (diameter <= 64)) {
         return false;
     }
-    let across = diameter as u64;
-    (1 <= area) & (100 * (area as u64) <= 785 * across * across)
-}
-
-// Whether a table is taken, or why it isn't.
-fn check_table(table: &BoltTable) -> Result<(), TableRefusal>
-    ensures { check_meaning result ≡ table_check table.now }
-{
-    if !is_size_count(table.count) {
-        return Err(TableRefusal::OutOfRange);
-    }
-    let counted = table.count as usize;
-    check_sizes(&table.diameters[..counted], &table.areas[..counted])
+    let across = u64::from(diameter);
+    (1 <= area) & (100 * u64::from(area) <= 785 * across * across)
 }
 
 fn is_size_count(count: u32) -> bool
     ensures { result ≡ within size_counts count }
 {
-    (1 <= count) & (count <= 12)
+    (1..=PLACES as u32).contains(&count)
 }
 
 // That a number is out of range comes first over all sizes, so it decides there and then. Whether diameters rise and areas fit is told
@@ -159,5 +186,5 @@ fn check_sizes(diameters: &[u32], areas: &[u32]) -> Result<(), TableRefusal>
 fn is_in_range(diameter: u32, area: u32) -> bool
     ensures { result ≡ size_in_range (record { diameter = diameter; area = area }) }
 {
-    ((6 <= diameter) & (diameter <= 64)) & ((1 <= area) & (area <= 40000))
+    (6..=64).contains(&diameter) & (1..=40000).contains(&area)
 }

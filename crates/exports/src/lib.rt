@@ -142,7 +142,7 @@ pub extern "C" fn jinqewan_load(table: &[u32], in_force: &mut [u32]) -> u32
         return SHORT;
     }
     let mut held = words::tables::table_of(in_force);
-    match bolttable::load(&mut held, words::tables::table_of(table)) {
+    match bolttable::load(&mut held, &words::tables::table_of(table)) {
         Ok(()) => {
             words::tables::put_table(&held, in_force);
             0

@@ -123,7 +123,8 @@ pub struct Joint {
     pub column: Column,
     pub bolts: Bolts,
     pub face: Face,
-    // the second face, with fields 1, 2, 6, 7, 14 to 29 and levers of its own; where there is none it isn't looked at, and Read gives 0
+    // the second face, with fields 1, 2, 6, 7, 14 to 29 and levers of its own; where there is none it isn't looked at, and Read gives 0. No
+    // Option: field 1 says whether there is one, as the file and the words have it, and the rules take any joint
     pub other: Face,
 }
 
@@ -132,11 +133,11 @@ pub struct Joint {
 pub fn is_two_faced(count: u32) -> bool
     ensures { result ≡ two_faced count }
 {
-    (17 <= count) & (count <= 24)
+    (17..=24).contains(&count)
 }
 
 // The rows of the first face by field 1.
-#[tactic(auto, unfolding(crate::specs::Faces::first_rows))]
+#[tactic(auto, using(crate::proofs::Faces::marked), unfolding(crate::specs::Faces::first_rows))]
 pub fn first_rows(count: u32) -> u32
     ensures { result ≡ first_rows count }
 {
@@ -188,7 +189,7 @@ pub fn check_fields(
 pub fn is_row_count(count: usize) -> bool
     ensures { result ≡ within row_counts count }
 {
-    (1 <= count) & (count <= 8)
+    (1..=8).contains(&count)
 }
 
 // A field by its test.
@@ -207,7 +208,7 @@ fn holds(field: u32, test: bool) -> Result<(), OutOfRange>
 fn in_range(field: u32, value: u32, low: u32, high: u32) -> Result<(), OutOfRange>
     ensures { result ≡ found_by ((field, within (low to high) value) ∷ []) }
 {
-    holds(field, (low <= value) & (value <= high))
+    holds(field, (low..=high).contains(&value))
 }
 
 // A field that is a steel grade.
@@ -291,8 +292,7 @@ fn check_welds(welds: Welds, shear_rows: u32) -> Result<(), OutOfRange>
 fn check_loads(loads: Loads, end_distance: u32) -> Result<(), OutOfRange>
     ensures { result ≡ found_by (load_checks loads end_distance) }
 {
-    let n = loads.axial;
-    holds(27, (-10000000 <= n) & (n <= 10000000))?;
+    holds(27, (-10000000..=10000000).contains(&loads.axial))?;
     in_range(28, loads.shear, 0, 10000000)?;
     in_range(29, loads.moment, 0, 10000000)?;
     in_range(30, end_distance, 1, 15000)

@@ -127,7 +127,7 @@ fn put_joint<S: Sink>(sink: &mut S, number: u64, joint: Joint)
     requires { S.has_room sink.old (concatenated (joint_lines number joint)) }
     ensures { S.takes sink.old (concatenated (joint_lines number joint)) sink.new }
 {
-    let outcome = work::work(bolttable::built_in(), joint);
+    let outcome = work::work(&bolttable::built_in(), joint);
     put_outcome(
         sink,
         number,

@@ -25,7 +25,7 @@ pub fn joint_words(numbers: &[u64]) -> Result<[u32; JOINT_WORDS], Difference> {
 }
 
 // What a joint's words come to with a bolt table in force.
-pub fn worked_numbers(table: BoltTable, joint: [u32; JOINT_WORDS]) -> [u64; OUTCOME_NUMBERS] {
+pub fn worked_numbers(table: &BoltTable, joint: [u32; JOINT_WORDS]) -> [u64; OUTCOME_NUMBERS] {
     let mut numbers = [0u64; OUTCOME_NUMBERS];
     match work::work(table, joint_of(&joint)) {
         Ok(worked) => put_outcome(&worked, &mut numbers[2..]),
@@ -39,12 +39,12 @@ pub fn worked_numbers(table: BoltTable, joint: [u32; JOINT_WORDS]) -> [u64; OUTC
 }
 
 // Works the joint of some numbers, with the bolt table that is in force.
-pub fn compare_working(table: BoltTable, joint: &[u64], answer: &[u64]) -> Result<(), Difference> {
+pub fn compare_working(table: &BoltTable, joint: &[u64], answer: &[u64]) -> Result<(), Difference> {
     let should = in_long_form::<OUTCOME_NUMBERS>(answer, SHORT_OUTCOME)?;
     compare(&worked_numbers(table, joint_words(joint)?), &should)
 }
 
 pub fn run(items: &mut Items) -> Result<(), Difference> {
     let sides = items.sides()?;
-    compare_working(bolttable::built_in(), &sides.given, &sides.answer)
+    compare_working(&bolttable::built_in(), &sides.given, &sides.answer)
 }

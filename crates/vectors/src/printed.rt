@@ -67,7 +67,7 @@ impl Cell {
     fn read(items: &mut Items) -> Result<Cell, Difference> {
         let sides = items.sides()?;
         let ([_, count, printed, tolerance, place], joint) = head_and_joint::<5>(&sides.given)?;
-        let numbers = worked_numbers(built_in(), joint);
+        let numbers = worked_numbers(&built_in(), joint);
         compare(&numbers[..SHORT_OUTCOME], &sides.answer)?;
         let worked = (place as usize)
             .checked_sub(1)
@@ -109,7 +109,7 @@ pub fn run_exception(items: &mut Items) -> Result<(), Difference> {
 fn bolts_under(joint: [u32; JOINT_WORDS], shear: u32) -> u64 {
     let mut loaded = joint;
     loaded[SHEAR] = shear;
-    worked_numbers(built_in(), loaded)[BOLTS]
+    worked_numbers(&built_in(), loaded)[BOLTS]
 }
 
 // The bolts' verdicts under the least and the greatest shear force that so many of a printed capacity stand for.

@@ -10,7 +10,7 @@ use words::tables::{TABLE_WORDS, put_table, table_of};
 const LOAD_NUMBERS: usize = TABLE_WORDS + 1;
 
 // Refusal, and the words of the table that is then in force.
-fn loaded_numbers(table: BoltTable) -> [u64; LOAD_NUMBERS] {
+fn loaded_numbers(table: &BoltTable) -> [u64; LOAD_NUMBERS] {
     let mut in_force = bolttable::built_in();
     let mut numbers = [0u64; LOAD_NUMBERS];
     if let Err(refusal) = bolttable::load(&mut in_force, table) {
@@ -35,7 +35,7 @@ fn table_from(numbers: &[u64]) -> Result<BoltTable, Difference> {
 pub fn run_load(items: &mut Items) -> Result<(), Difference> {
     let sides = items.sides()?;
     let table = table_from(&sides.given)?;
-    compare(&loaded_numbers(table), &sides.answer)
+    compare(&loaded_numbers(&table), &sides.answer)
 }
 
 pub fn run_own(items: &mut Items) -> Result<(), Difference> {
@@ -44,5 +44,5 @@ pub fn run_own(items: &mut Items) -> Result<(), Difference> {
         .given
         .split_at_checked(TABLE_WORDS)
         .ok_or(Difference::Unreadable)?;
-    joints::compare_working(table_from(table)?, joint, &sides.answer)
+    joints::compare_working(&table_from(table)?, joint, &sides.answer)
 }

@@ -4,7 +4,7 @@ ghost use Rattle.bolttable.specs.Area.{area_of};
 ghost use Rattle.buffers.specs.Put.{at_front};
 ghost use Rattle.words.specs.Tables.{table_word_count, table_of_words, words_of_table};
 
-use bolttable::{BoltTable, PLACES};
+use bolttable::{BoltTable, LentTable, PLACES};
 
 // How many words a table is, and where its areas begin.
 pub const TABLE_WORDS: usize = AREAS + PLACES;
@@ -28,12 +28,13 @@ pub fn area_of(words: &[u32], diameter: u32) -> Option<u32>
     requires { table_word_count ≤ length words.now }
     ensures { result ≡ area_of (table_of_words words.now) diameter }
 {
-    bolttable::area_in(
-        words[0],
-        &words[1..AREAS],
-        &words[AREAS..TABLE_WORDS],
-        diameter,
-    )
+    let count = words[0];
+    LentTable {
+        count,
+        diameters: &words[1..AREAS],
+        areas: &words[AREAS..TABLE_WORDS],
+    }
+    .area_of(diameter)
 }
 
 // Puts a table's words at the front of a slice.

@@ -17,9 +17,9 @@ use outcome::{JointRefusal, RefusedFace, SecondFace, Worked};
 
 // Works any joint with any bolt table in force: the whole result, or the first refusal in their order that holds. The row forces are the
 // best there are: demand 3, in specs/Demand.antt. Of a joint with one face nothing of a second is looked at.
-pub fn work(table: BoltTable, joint: Joint) -> Result<Worked, JointRefusal>
-    ensures equals { outcome_meaning result ≡ worked table joint }
-    ensures demand { OnOk result (Demand3Of table joint (outcome_meaning result)) }
+pub fn work(table: &BoltTable, joint: Joint) -> Result<Worked, JointRefusal>
+    ensures equals { outcome_meaning result ≡ worked table.now joint }
+    ensures demand { OnOk result (Demand3Of table.now joint (outcome_meaning result)) }
 {
     work_with(bolttable::area_of(table, joint.bolts.diameter), joint)
 }

@@ -4,4 +4,4 @@ use Rattle.words.proofs.tables.area_of.Goals as goal
 
 pub returns : goal.returns
 unfolding table_of_words
-returns c = c.area_in.ensures
+returns c = c.area_of.ensures
