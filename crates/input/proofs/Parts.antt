@@ -1,12 +1,10 @@
 -- A space of which a part from a place on was read into: its front is what it was, and then what was read. Assumes nothing.
-use Rattle.std.proofs.Common.{subst, ◌<◌, ℕ, ◌+◌, ◌-◌, ◌≤◌, ◌≡◌, List, ◌++◌, length, take, drop, arith, sym, ap, ◌∙◌}
+use Rattle.std.proofs.Common.{ℕ, ◌+◌, ◌-◌, ◌≤◌, ◌≡◌, List, ◌++◌, length, take, drop, arith, sym, ap, ◌∙◌}
 use Rattle.std.proofs.lemmas.List.{take-append-drop, take_at}
 use Rattle.std.proofs.lemmas.Grind.{common_steps}
-use Rattle.std.specs.Prelude.{Option, Result, Ok, Err, OnErr}
-use Rattle.std.specs.Io.KnownBytes.{Consumes, Keeps}
-use Rattle.std.proofs.KnownBytes.{Consumes-trans, Consumes-kept}
-use Rattle.std.proofs.lemmas.Slice.{take-put_mid_below}
-use Rattle.input.specs.Reads.{Failed}
+use Rattle.std.specs.Prelude.{Option}
+use Rattle.std.specs.Io.KnownBytes.{Consumes}
+use Rattle.std.proofs.KnownBytes.{Consumes-trans}
 use borrow.Rule.Slice.PartMut.{put_mid, post_of}
 
 pub take_part : (from size count : ℕ) (space part : List ℕ) → from ≤ length space → count ≤ length part
@@ -34,24 +32,3 @@ read_on before between after from count space part inside first fills most secon
       rw (take_part from size count space part inside most)
           (Consumes-trans before between after (take from space) (take count part) first second),
     )
-
--- and a read that fails takes nothing, whatever it leaves in its part of the space
-pub failed_on : (before between after : Option (List ℕ)) (from : ℕ) (space part : List ℕ) → from < length space
-    → Consumes before between (take from space)
-    → length part ≡ length space - from
-    → Keeps between after
-    → Failed before after (put_mid from (length space - from) space part)
-failed_on before between after from space part room first fills kept =
-    let size = length space - from in
-    let long : length (put_mid from size space part) ≡ length space = grind (arith, common_steps) in
-    let front : take from (put_mid from size space part) ≡ take from space = take-put_mid_below from size space part from (omega arith) (omega arith) in
-    let Taken : List ℕ → Type 0 = λ bytes. Consumes before after bytes in
-    record {
-      count = from;
-      room = omega (arith, long);
-      bytes = subst Taken (sym front) (Consumes-kept before between after (take from space) first kept);
-    }
-
-pub on_err : {T E P : Type 0} (r : Result T E) → P → OnErr r P
-on_err (Ok x) p = tt
-on_err (Err e) p = p
