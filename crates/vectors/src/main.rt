@@ -3,10 +3,8 @@
 // or an output that fails is said on standard error.
 #![tactic(auto)]
 
-ghost use Rattle.std.specs.Prelude.{◌≡◌, length};
-
 use compare::Difference;
-use input::read_whole;
+use input::{read_whole, space};
 use jointfile::FileKind;
 use progress::Progress;
 use reader::Items;
@@ -26,13 +24,6 @@ const MOST_INPUT: usize = 2097152;
 
 // One byte more than there may be, so that an input that is too long is seen to be.
 const INPUT_SPACE: usize = MOST_INPUT + 1;
-
-// Zeros for what is read, in a space of a fixed size, which can't run out of memory.
-fn input_space() -> [u8; INPUT_SPACE]
-    ensures { INPUT_SPACE ≡ length result }
-{
-    [0; INPUT_SPACE]
-}
 
 // Runs the call that a line names.
 fn run_line(line: &[u8]) -> Result<(), Difference> {
@@ -70,7 +61,7 @@ fn run_all<W: Write>(text: &[u8], out: &mut W) -> io::Result<()> {
 }
 
 fn main(rt: HostRuntime) {
-    let mut text = input_space();
+    let mut text = space::<INPUT_SPACE>();
     let Ok(size) = read_whole(&mut rt.stdin(), &mut text) else {
         let _told = eprintln!(rt;
             "vectors: the input could not be read to its end; nothing is run"
