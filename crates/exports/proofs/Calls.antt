@@ -152,9 +152,10 @@ first_word fields =
 module _ (table : BoltTable) (joint : Joint) {column : Column} {bolts : Bolts} {face : Face} {area : Option ℕ}
     (alone : two_faced joint.face.rows ≡ false) (parts : (column ≡ joint.column) × (bolts ≡ joint.bolts) × (face ≡ joint.face))
     (listed : area ≡ area_of table bolts.diameter) where
-  pub alone_is : {outcome : FaceOutcome} → outcome ≡ worked_connection true column bolts area face → of_one_face outcome ≡ worked table joint
+  pub alone_is : {outcome : Outcome} → outcome ≡ of_one_face (worked_connection true column bolts area face)
+      → outcome ≡ worked table joint
   alone_is is =
-      ap of_one_face (is ∙ (rw (listed, parts.0, parts.1, parts.2))) ∙ of_one (area_of table joint.bolts.diameter) joint alone
+      is ∙ ap of_one_face (rw (listed, parts.0, parts.1, parts.2)) ∙ of_one (area_of table joint.bolts.diameter) joint alone
 
   pub alone_demand : (outcome : Outcome) → Demand3For true column bolts area face outcome.result → Demand3Of table joint outcome
   alone_demand outcome demand =

@@ -13,21 +13,20 @@ ghost use Rattle.std.specs.Prelude.{◌≡◌, ◌≤◌, length, take, OnOk};
 ghost use Rattle.jointfile.specs.File.{reading};
 ghost use Rattle.sharing.specs.Groups.{listed};
 ghost use Rattle.sharing.specs.Best.{Best};
-ghost use Rattle.outcome.specs.Outcome.{number_of, field_of_refusal, face_number, outcome_meaning};
+ghost use Rattle.outcome.specs.Outcome.{number_of, field_of_refusal, face_number};
 ghost use Rattle.work.specs.Work.{worked};
-ghost use Rattle.work.specs.Demand.{Demand3Of};
-ghost use Rattle.words.specs.Tables.{table_word_count, table_of_words};
-ghost use Rattle.words.specs.Words.{first_word_count, joint_word_count, joint_of_words};
+ghost use Rattle.words.specs.Tables.{table_of_words};
+ghost use Rattle.words.specs.Words.{first_word_count, joint_of_words};
 ghost use Rattle.exports.specs.Answers.{answer_number, answers};
 ghost use Rattle.exports.specs.Calls.{allocating, kind_of, reading_into, writing_into, built_in_into, loading_into, working_into};
-ghost use Rattle.exports.specs.Calls.{Demand3OfWords, sheeting_into};
+ghost use Rattle.exports.specs.Calls.{EnoughWords, WordsPut, Demand3OfWords, sheeting_into};
 
 use connection::SharedParts;
 use joint::is_two_faced;
 use jointfile::FileKind;
-use outcome::{JointRefusal, RefusedFace, Worked};
+use outcome::JointRefusal;
 use words::joints::{JOINT_WORDS, OneFaced};
-use words::results::OUTCOME_WORDS;
+use words::results::{OUTCOME_WORDS, put_outcome};
 use words::tables::TABLE_WORDS;
 
 // The number of the old kind of file.
@@ -160,18 +159,19 @@ fn answer_of(refused: JointRefusal) -> u32
     refused.number() + 256 * refused.field() + 65536 * refused.face()
 }
 
-// What a joint's words come to with a table's. Of a joint with one face nothing of a second is made: that would take a sixth of the time of
-// one bolt row.
-fn work_words(table: &[u32], fields: &[u32]) -> Result<Worked, JointRefusal>
-    requires { (table_word_count ≤ length table.now) × (joint_word_count ≤ length fields.now) }
-    ensures equals { outcome_meaning result ≡ worked (table_of_words table.now) (joint_of_words fields.now) }
-    ensures demand { OnOk result
-        (Demand3Of (table_of_words table.now) (joint_of_words fields.now) (outcome_meaning result)) }
+// Works a joint's words with a table's, and puts the words of what they come to. Of a joint with one face nothing of a second is made: that
+// would take a sixth of the time of one bolt row.
+fn work_words(table: &[u32], fields: &[u32], res: &mut [u64]) -> Result<(), JointRefusal>
+    requires { EnoughWords table.now fields.now res.old }
+    ensures equals { WordsPut result (worked (table_of_words table.now) (joint_of_words fields.now)) res.old res.new }
+    ensures demand { OnOk result (Demand3OfWords (table_of_words table.now) (joint_of_words fields.now) res.new) }
 {
     if is_two_faced(fields[0]) {
         let joint = words::joints::joint_of(fields);
         let area = words::tables::area_of(table, joint.bolts.diameter);
-        return work::work_with(area, joint);
+        let worked = work::work_with(area, joint)?;
+        put_outcome(&worked.result, &worked.second, res);
+        return Ok(());
     }
     let OneFaced {
         column,
@@ -184,16 +184,9 @@ fn work_words(table: &[u32], fields: &[u32]) -> Result<Worked, JointRefusal>
         bolts,
         area,
     };
-    match connection::work_connection(true, &shared, face) {
-        Ok(result) => Ok(Worked {
-            result,
-            second: None,
-        }),
-        Err(refusal) => Err(JointRefusal {
-            refusal,
-            face: RefusedFace::Only,
-        }),
-    }
+    let result = work::work_alone(&shared, face)?;
+    put_outcome(&result, &None, res);
+    Ok(())
 }
 
 // Work, with the bolt table in force: the result's words go to the first places, and its forces are the best there are: demand 3.
@@ -207,11 +200,8 @@ pub extern "C" fn jinqewan_work(table: &[u32], fields: &[u32], res: &mut [u64]) 
     if table.len() < TABLE_WORDS || fields.len() < JOINT_WORDS || res.len() < OUTCOME_WORDS {
         return SHORT;
     }
-    match work_words(table, fields) {
-        Ok(worked) => {
-            words::results::put_outcome(&worked, res);
-            0
-        }
+    match work_words(table, fields, res) {
+        Ok(()) => 0,
         Err(refused) => answer_of(refused),
     }
 }

@@ -11,7 +11,7 @@ use compression::Resistances;
 use joint::Loads;
 
 // A compression check with its force in newtons.
-#[derive(Clone, Copy)]
+#[derive(Clone, Copy, PartialEq, Eq, Debug)]
 pub enum CompressionCheck {
     Flange(u64),
     Bearing(u64),

@@ -14,21 +14,22 @@ use Rattle.outcome.specs.declared.FaceRefusal.TheVariants.{OutOfRange, LeversDon
 use Rattle.outcome.specs.declared.JointRefusal.{JointRefusal}
 use Rattle.outcome.specs.declared.SecondFace.{SecondFace}
 use Rattle.outcome.specs.declared.Worked.{Worked}
-use Rattle.outcome.specs.Outcome.{Outcome, PanelVerdict, NotAsked, Passes, Fails, Refusal, number_of, outcome_meaning}
+use Rattle.outcome.specs.Outcome.{Outcome, PanelVerdict, NotAsked, Passes, Fails, Refusal, number_of, outcome_meaning, second_result, second_panel}
 use Rattle.items.specs.Digits.{decimal}
 use Rattle.items.specs.Items.{spaced, letter}
 use Rattle.items.proofs.Numerals.{decimal_short}
 use Rattle.items.proofs.Items.{items, items_append, items_short, letters_size, spaced-append}
-use Rattle.line.specs.Steps.{refusal_begun, field_items, face_items, panel_verdict}
+use Rattle.line.specs.Steps.{refusal_begun, field_items, face_items}
 use Rattle.line.specs.Longest.{letter_count, most_line}
 use Rattle.line.specs.Line.{Line, verdict_letter, letters_of, figures_of, row_forces, is_asked, panel_letter, shown_letters, result_line, refusal_line}
 use Rattle.line.specs.Line.{refusal_items, face_lines, outcome_lines, concatenated}
 
 -- ---- what a line is made of
 
-pub read_parts : (number refusal : ℕ) → refusal_line number (refusal ∷ []) ≡ refusal_begun number refusal ++ (10 ∷ [])
+pub read_parts : {told : ℕ} (number refusal : ℕ) → told ≡ refusal
+    → refusal_line number (refusal ∷ []) ≡ refusal_begun number told ++ (10 ∷ [])
 unfolding refusal_line spaced
-read_parts number refusal = sym (append_assoc (decimal number) _ _)
+read_parts number refusal tells = rw tells (sym (append_assoc (decimal number) _ _))
 
 refusal_more : (number refusal : ℕ) (field face : List ℕ)
     → refusal_line number (refusal ∷ (field ++ face))
@@ -60,9 +61,9 @@ module _ (number : ℕ) (shown : List ℕ) where
   pub refusal_short : length shown ≤ 3 → length (refusal_line number shown) ≤ most_line
   refusal_short few = omega (arith, refusal_size, decimal_short number, items_short shown)
 
-pub rows_parts : {count : ℕ} (rows : ℕ) (forces : List ℕ) → count ≡ min rows 8
-    → items decimal (rows ∷ row_forces rows forces) ≡ items decimal (rows ∷ []) ++ items decimal (take count forces)
-rows_parts rows forces shown = rw shown (items_append decimal (rows ∷ []) (row_forces rows forces))
+pub rows_parts : {told count : ℕ} (rows : ℕ) (forces : List ℕ) → told ≡ rows → count ≡ min rows 8
+    → items decimal (rows ∷ row_forces rows forces) ≡ items decimal (told ∷ []) ++ items decimal (take count forces)
+rows_parts rows forces tells shown = rw (tells, shown) (items_append decimal (rows ∷ []) (row_forces rows forces))
 
 three_parts : (first : List ℕ) (a b c : List (List ℕ)) (end : List ℕ)
     → first ++ (spaced (a ++ (b ++ c)) ++ end) ≡ first ++ (spaced a ++ (spaced b ++ (spaced c ++ end)))
@@ -75,12 +76,13 @@ pub letters_parts : {own : List ℕ} (result : FaceResult) (panel : PanelVerdict
     → items letter (shown_letters result panel) ≡ items letter own ++ items letter (cond (is_asked panel) (panel_letter panel ∷ []) [])
 letters_parts result panel is = rw is (items_append letter (letters_of result) _)
 
-pub panel_shown : {panel : Option Bool} {passes : Bool} {shown : ℕ} → panel ≡ Some passes → shown ≡ verdict_letter passes
-    → cond (is_asked (panel_verdict panel)) (panel_letter (panel_verdict panel) ∷ []) [] ≡ shown ∷ []
-panel_shown {passes = passes} is shows = rw (is, shows) (go passes)
+pub panel_shown : {second : Option SecondFace} {other : SecondFace} {shown : ℕ} → second ≡ Some other
+    → shown ≡ verdict_letter other.panel_passes
+    → cond (is_asked (second_panel second)) (panel_letter (second_panel second) ∷ []) [] ≡ shown ∷ []
+panel_shown {other = other} is shows = rw (is, shows) (go other.panel_passes)
   where
     go : (passes : Bool)
-        → cond (is_asked (panel_verdict (Some passes))) (panel_letter (panel_verdict (Some passes)) ∷ []) [] ≡ verdict_letter passes ∷ []
+        → let panel = cond passes Passes Fails in cond (is_asked panel) (panel_letter panel ∷ []) [] ≡ verdict_letter passes ∷ []
     go true = refl
     go false = refl
 
@@ -202,7 +204,20 @@ module _ (number rows other_rows : ℕ) (outcome : Outcome) where
 
 -- ---- the lines of an answer, case by case
 
-asked : (passes : Bool) → is_asked (panel_verdict (Some passes)) ≡ true
+-- the line of a second face, where there is one
+abbrev pub second_line : (number rows : ℕ) → PanelVerdict → Option SecondFace → List ℕ
+second_line number rows panel None = []
+second_line number rows panel (Some second) = result_line number rows second.result panel
+
+module _ (number rows : ℕ) (panel : PanelVerdict) {second : Option SecondFace} where
+  pub second_some : {other : SecondFace} → second ≡ Some other
+      → second_line number rows panel second ≡ result_line number rows other.result panel
+  second_some is = ap (second_line number rows panel) is
+
+  pub second_none : second ≡ None → second_line number rows panel second ≡ []
+  second_none is = ap (second_line number rows panel) is
+
+asked : (passes : Bool) → is_asked (cond passes Passes Fails) ≡ true
 asked true = refl
 asked false = refl
 
@@ -226,16 +241,15 @@ module _ (number rows other_rows : ℕ) where
   refused_line {refused = refused} is =
       rw is (outcome_refusal number rows other_rows (outcome_meaning (Err refused)) (number_some refused.refusal))
 
-  pub faces_alone : (worked : Worked) → worked.second ≡ None
+  -- the line of the first face, and of the second, where there is one
+  pub faces_parts : (worked : Worked)
       → concatenated (face_lines number rows other_rows (outcome_meaning (Ok worked)))
-      ≡ result_line number rows worked.result (panel_verdict None)
-  faces_alone worked alone = rw alone (one_line _)
-
-  pub faces_both : (worked : Worked) (second : SecondFace) → worked.second ≡ Some second
-      → let panel = panel_verdict (Some second.panel_passes) in
-      concatenated (face_lines number rows other_rows (outcome_meaning (Ok worked)))
-      ≡ result_line number rows worked.result panel ++ result_line number other_rows second.result panel
+      ≡ result_line number rows worked.result (second_panel worked.second) ++ second_line number other_rows (second_panel worked.second) worked.second
   unfolding concatenated
-  faces_both worked second both =
-      rw (both, asked second.panel_passes)
-      (ap (λ (l : List ℕ). result_line number rows worked.result (panel_verdict (Some second.panel_passes)) ++ l) (append-nil _))
+  faces_parts worked = ap (λ (l : List ℕ). result_line number rows worked.result (second_panel worked.second) ++ l) (go worked.second)
+    where
+      go : (second : Option SecondFace)
+          → concatenated (cond (is_asked (second_panel second)) (result_line number other_rows (second_result second) (second_panel second) ∷ []) [])
+          ≡ second_line number other_rows (second_panel second) second
+      go None = refl
+      go (Some second) = rw (asked second.panel_passes) (append-nil _)

@@ -1,8 +1,8 @@
 -- What each step of the code hands over, of an answer as Work gives it. No rule says more by it. Assumes nothing.
-use Rattle.std.specs.Prelude.{ℕ, List, [], ◌∷◌, ◌++◌, map, Bool, cond, eqb, Option, Some, None}
+use Rattle.std.specs.Prelude.{ℕ, List, [], ◌∷◌, ◌++◌, map, cond, eqb}
 use Rattle.outcome.specs.declared.FaceRefusal.{FaceRefusal}
 use Rattle.outcome.specs.declared.RefusedFace.{RefusedFace}
-use Rattle.outcome.specs.Outcome.{PanelVerdict, NotAsked, Passes, Fails, number_of, field_of_refusal, face_number}
+use Rattle.outcome.specs.Outcome.{number_of, field_of_refusal, face_number}
 use Rattle.items.specs.Digits.{decimal}
 use Rattle.items.specs.Items.{letter, spaced}
 
@@ -17,8 +17,3 @@ field_items refusal = cond (eqb (number_of refusal) 10) (field_of_refusal refusa
 -- the face, of a joint that has two
 abbrev pub face_items : RefusedFace → List ℕ
 face_items face = cond (eqb (face_number face) 0) [] (face_number face ∷ [])
-
--- whether the panel passes, where there are two faces
-abbrev pub panel_verdict : Option Bool → PanelVerdict
-panel_verdict None = NotAsked
-panel_verdict (Some passes) = cond passes Passes Fails

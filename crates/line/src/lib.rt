@@ -4,16 +4,18 @@
 #![tactic(auto)]
 
 ghost use Rattle.std.specs.Prelude.{◌≡◌, [], ◌∷◌, ◌++◌, map, Ok, Err};
-ghost use Rattle.outcome.specs.Outcome.{outcome_meaning};
+ghost use Rattle.outcome.specs.Outcome.{outcome_meaning, second_panel};
+ghost use Rattle.jointfile.specs.Answers.{read_refusal};
 ghost use Rattle.items.specs.Digits.{decimal};
 ghost use Rattle.items.specs.Items.{letter, spaced};
 ghost use Rattle.line.specs.Line.{check_letter, verdict_letter, letters_of, row_forces, shown_letters, result_line};
 ghost use Rattle.line.specs.Line.{refusal_line, refusal_items, face_lines, outcome_lines, concatenated};
-ghost use Rattle.line.specs.Steps.{refusal_begun, field_items, face_items, panel_verdict};
+ghost use Rattle.line.specs.Steps.{refusal_begun, field_items, face_items};
 
 use governing::CompressionCheck;
 use items::{Sink, put_letters, put_numbers};
-use outcome::{FaceRefusal, FaceResult, JointRefusal, RefusedFace, Worked};
+use jointfile::ReadRefusal;
+use outcome::{FaceRefusal, FaceResult, JointRefusal, RefusedFace, SecondFace, Worked};
 
 // No line is longer.
 pub const MOST_LINE: usize = 285;
@@ -36,11 +38,11 @@ pub fn put_outcome<S: Sink>(
 }
 
 // Hands over the line of a joint that can't be read.
-pub fn put_read_refusal<S: Sink>(sink: &mut S, number: u64, refusal: u32)
-    requires { S.has_room sink.old (refusal_line number (refusal ∷ [])) }
-    ensures { S.takes sink.old (refusal_line number (refusal ∷ [])) sink.new }
+pub fn put_read_refusal<S: Sink>(sink: &mut S, number: u64, refusal: ReadRefusal)
+    requires { S.has_room sink.old (refusal_line number (read_refusal refusal ∷ [])) }
+    ensures { S.takes sink.old (refusal_line number (read_refusal refusal ∷ [])) sink.new }
 {
-    begin_refusal(sink, number, refusal as u64);
+    begin_refusal(sink, number, refusal.number());
     sink.byte(b'\n');
 }
 
@@ -51,20 +53,20 @@ fn put_work_refusal<S: Sink>(sink: &mut S, number: u64, refused: JointRefusal)
     requires { S.has_room sink.old (refusal_line number (refusal_items (outcome_meaning (Err refused)).refusal)) }
     ensures { S.takes sink.old (refusal_line number (refusal_items (outcome_meaning (Err refused)).refusal)) sink.new }
 {
-    begin_refusal(sink, number, refused.number() as u64);
+    begin_refusal(sink, number, refused.number());
     put_field(sink, refused.refusal);
     put_face(sink, refused.face);
     sink.byte(b'\n');
 }
 
 // The joint's number, R, and the refusal's number.
-fn begin_refusal<S: Sink>(sink: &mut S, number: u64, refusal: u64)
+fn begin_refusal<S: Sink>(sink: &mut S, number: u64, refusal: u32)
     requires { S.has_room sink.old (refusal_begun number refusal) }
     ensures { S.takes sink.old (refusal_begun number refusal) sink.new }
 {
     sink.number(number);
     put_letters(sink, b"R");
-    put_numbers(sink, &[refusal]);
+    put_numbers(sink, &[u64::from(refusal)]);
 }
 
 fn put_field<S: Sink>(sink: &mut S, refusal: FaceRefusal)
@@ -72,7 +74,7 @@ fn put_field<S: Sink>(sink: &mut S, refusal: FaceRefusal)
     ensures { S.takes sink.old (spaced (map decimal (field_items refusal))) sink.new }
 {
     if let FaceRefusal::OutOfRange(field) = refusal {
-        put_numbers(sink, &[field as u64]);
+        put_numbers(sink, &[u64::from(field)]);
     }
 }
 
@@ -82,8 +84,7 @@ fn put_face<S: Sink>(sink: &mut S, face: RefusedFace)
 {
     match face {
         RefusedFace::Only => {}
-        RefusedFace::First => put_numbers(sink, &[1]),
-        RefusedFace::Second => put_numbers(sink, &[2]),
+        RefusedFace::First | RefusedFace::Second => put_numbers(sink, &[face as u64]),
     }
 }
 
@@ -93,25 +94,28 @@ fn put_faces<S: Sink>(sink: &mut S, number: u64, rows: u32, other_rows: u32, wor
     requires { S.has_room sink.old (concatenated (face_lines number rows other_rows (outcome_meaning (Ok worked.now)))) }
     ensures { S.takes sink.old (concatenated (face_lines number rows other_rows (outcome_meaning (Ok worked.now)))) sink.new }
 {
-    match &worked.second {
-        None => put_result(sink, number, rows, &worked.result, None),
-        Some(second) => {
-            let panel = Some(second.panel_passes);
-            put_result(sink, number, rows, &worked.result, panel);
-            put_result(sink, number, other_rows, &second.result, panel);
-        }
+    let second = &worked.second;
+    put_result(sink, number, rows, &worked.result, second);
+    if let Some(other) = second {
+        put_result(sink, number, other_rows, &other.result, second);
     }
 }
 
 // The line of a face, and with it the panel's verdict, where there are two.
-fn put_result<S: Sink>(sink: &mut S, number: u64, rows: u32, face: &FaceResult, panel: Option<bool>)
-    requires { S.has_room sink.old (result_line number rows face.now (panel_verdict panel)) }
-    ensures { S.takes sink.old (result_line number rows face.now (panel_verdict panel)) sink.new }
+fn put_result<S: Sink>(
+    sink: &mut S,
+    number: u64,
+    rows: u32,
+    face: &FaceResult,
+    second: &Option<SecondFace>,
+)
+    requires { S.has_room sink.old (result_line number rows face.now (second_panel second.now)) }
+    ensures { S.takes sink.old (result_line number rows face.now (second_panel second.now)) sink.new }
 {
     sink.number(number);
     put_rows(sink, rows, &face.forces);
     put_numbers(sink, &[face.sum, face.newton_metres, face.cap]);
-    put_verdicts(sink, face, panel);
+    put_verdicts(sink, face, second);
     sink.byte(b'\n');
 }
 
@@ -120,18 +124,18 @@ fn put_rows<S: Sink>(sink: &mut S, rows: u32, forces: &[u64; 8])
     requires { S.has_room sink.old (spaced (map decimal (rows ∷ row_forces rows forces.now))) }
     ensures { S.takes sink.old (spaced (map decimal (rows ∷ row_forces rows forces.now))) sink.new }
 {
-    put_numbers(sink, &[rows as u64]);
+    put_numbers(sink, &[u64::from(rows)]);
     put_numbers(sink, &forces[..rows.min(8) as usize]);
 }
 
 // The letters of the governing check and the verdicts, the panel's last.
-fn put_verdicts<S: Sink>(sink: &mut S, face: &FaceResult, panel: Option<bool>)
-    requires { S.has_room sink.old (spaced (map letter (shown_letters face.now (panel_verdict panel)))) }
-    ensures { S.takes sink.old (spaced (map letter (shown_letters face.now (panel_verdict panel)))) sink.new }
+fn put_verdicts<S: Sink>(sink: &mut S, face: &FaceResult, second: &Option<SecondFace>)
+    requires { S.has_room sink.old (spaced (map letter (shown_letters face.now (second_panel second.now)))) }
+    ensures { S.takes sink.old (spaced (map letter (shown_letters face.now (second_panel second.now)))) sink.new }
 {
     put_letters(sink, &letters_of(face));
-    if let Some(passes) = panel {
-        put_letters(sink, &[verdict_letter(passes)]);
+    if let Some(second) = second {
+        put_letters(sink, &[verdict_letter(second.panel_passes)]);
     }
 }
 

@@ -8,7 +8,7 @@ use governing::CompressionCheck;
 use joint::OutOfRange;
 
 // Whether a face passes each check.
-#[derive(Clone, Copy)]
+#[derive(Clone, Copy, PartialEq, Eq, Debug)]
 pub struct Verdicts {
     pub bending: bool,
     pub bolts: bool,
@@ -17,7 +17,7 @@ pub struct Verdicts {
 }
 
 // What one face of the column comes to.
-#[derive(Clone, Copy)]
+#[derive(Clone, Copy, PartialEq, Eq, Debug)]
 pub struct FaceResult {
     // newtons, row 1 first; 0 past the last row
     pub forces: [u64; 8],
@@ -46,6 +46,7 @@ pub enum FaceRefusal {
 }
 
 impl FaceRefusal {
+    // Not a cast of the name, as the other refusals' numbers are: one name holds a field.
     pub fn number(self) -> u32
         ensures { result ≡ number_of self }
     {
@@ -67,6 +68,16 @@ impl FaceRefusal {
         match self {
             FaceRefusal::OutOfRange(field) => field,
             _ => 0,
+        }
+    }
+
+    // The same of a joint, whose face this is.
+    pub fn on(self, face: RefusedFace) -> JointRefusal
+        ensures { result ≡ record { refusal = self; face = face } }
+    {
+        JointRefusal {
+            refusal: self,
+            face,
         }
     }
 }
@@ -119,14 +130,14 @@ impl JointRefusal {
 }
 
 // What the second face of a joint comes to, and whether the web panel between the faces carries what they bring to it.
-#[derive(Clone, Copy)]
+#[derive(Clone, Copy, PartialEq, Eq, Debug)]
 pub struct SecondFace {
     pub result: FaceResult,
     pub panel_passes: bool,
 }
 
 // What a joint comes to.
-#[derive(Clone, Copy)]
+#[derive(Clone, Copy, PartialEq, Eq, Debug)]
 pub struct Worked {
     // of the first face
     pub result: FaceResult,

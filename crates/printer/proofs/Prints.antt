@@ -93,15 +93,13 @@ module _ (number : ℕ) (left : List ℕ) (some : 0 < length left) where
   unfolding reading_lines
   lines_read read is = by_answer is
 
-  pub lines_refused : {told : ℕ} (refusal : ReadRefusal) → reading_meaning (length left) (Err refusal) ≡ reading sheet_kind left
-      → told ≡ read_refusal refusal
-      → lines_left number left ≡ refusal_line number (told ∷ [])
+  pub lines_refused : (refusal : ReadRefusal) → reading_meaning (length left) (Err refusal) ≡ reading sheet_kind left
+      → lines_left number left ≡ refusal_line number (read_refusal refusal ∷ [])
   unfolding reading_lines concatenated refusal_line
-  lines_refused refusal is tells =
-      rw tells
-      (by_answer is
+  lines_refused refusal is =
+      by_answer is
       ∙ ap (λ (l : List ℕ). concatenated (reading_lines number (reading_meaning (length left) (Err refusal))) ++ l) none
-      ∙ append-nil _ ∙ one refusal)
+      ∙ append-nil _ ∙ one refusal
     where
       none : lines_left (number + 1) (drop (length left) left) ≡ []
       none = rw (drop-length left, lines_none (number + 1)) refl

@@ -117,7 +117,7 @@ fn put_joints<S: Sink>(sink: &mut S, input: &[u8])
                 left = &left[reading.next..];
                 number += 1;
             }
-            Err(refusal) => return put_read_refusal(sink, number, refusal.number()),
+            Err(refusal) => return put_read_refusal(sink, number, refusal),
         }
     }
 }

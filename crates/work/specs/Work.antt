@@ -1,5 +1,5 @@
 -- Working a joint (rules 11): a face on its own, or two of them and the panel between them. Assumes nothing.
-use Rattle.std.specs.Prelude.{ℕ, true, false, cond, eqb, Option}
+use Rattle.std.specs.Prelude.{ℕ, true, false, cond, eqb, Option, None, Result, Ok, Err}
 use Rattle.bolttable.specs.Area.{area_of}
 use Rattle.bolttable.specs.declared.BoltTable.{BoltTable}
 use Rattle.joint.specs.Faces.{two_faced, first_face}
@@ -12,8 +12,9 @@ use Rattle.strength.specs.Steel.{steel_strength}
 use Rattle.compression.specs.Compression.{panel_shear}
 use Rattle.panel.specs.Panel.{governing_total, panel_passes}
 use Rattle.connection.specs.Connection.{worked_connection}
-use Rattle.outcome.specs.Outcome.{FaceOutcome, Outcome, PanelVerdict, NotAsked, Passes, Fails, no_result}
+use Rattle.outcome.specs.Outcome.{FaceOutcome, Outcome, PanelVerdict, NotAsked, Passes, Fails, no_result, outcome_meaning}
 use Rattle.outcome.specs.declared.FaceResult.{FaceResult}
+use Rattle.outcome.specs.declared.JointRefusal.{JointRefusal}
 
 -- rule 8.6: the panel's verdict, by the sums of forces and the loads of the two faces
 unfoldable pub panel_verdict : Column → (first_sum : ℕ) (first : Loads) (second_sum : ℕ) (second : Loads) → PanelVerdict
@@ -38,6 +39,11 @@ of_one_face outcome = record {
   other = no_result;
   panel = NotAsked;
 }
+
+-- what an answer for the only face says of its joint
+abbrev pub alone_meaning : Result FaceResult JointRefusal → Outcome
+alone_meaning (Ok result) = outcome_meaning (Ok (record { result = result; second = None }))
+alone_meaning (Err refused) = outcome_meaning (Err refused)
 
 -- rule 11.9: what comes of a face that may be refused, its number told with the refusal; and else what comes after it
 abbrev pub if_taken : (face : ℕ) → FaceOutcome → (FaceResult → Outcome) → Outcome

@@ -1,15 +1,12 @@
--- `jinqewan_work` meets its contract: a slice is too short, the joint is refused, or the words of what it comes to are put, and demand 3
--- holds of them. Assumes nothing.
-use Rattle.std.proofs.Common.{Ok, sym, ap, ◌∙◌}
-use Rattle.buffers.specs.Put.{at_front}
-use Rattle.outcome.specs.Outcome.{Outcome, outcome_meaning}
+-- `jinqewan_work` meets its contract: a slice is too short, the joint is refused, or the words of what it comes to were put. Assumes
+-- nothing.
+use Rattle.std.proofs.Common.{ap, ◌∙◌}
+use Rattle.outcome.specs.Outcome.{Outcome}
 use Rattle.words.specs.Tables.{table_of_words}
-use Rattle.words.specs.Words.{joint_of_words}
-use Rattle.words.specs.Results.{outcome_words}
 use Rattle.exports.specs.Answers.{answer_number}
 use Rattle.exports.proofs.Answers.{three_short, enough_all, too_short, taken, refusal_told}
 use Rattle.exports.proofs.Refusals.{face_some}
-use Rattle.exports.proofs.Calls.{refusal_small, demand_words}
+use Rattle.exports.proofs.Calls.{refusal_small}
 use Rattle.exports.proofs.jinqewan_work.Goals as goal
 
 pub returns-then-table-lt-TABLE_WORDS-clause-equals : goal.returns-then-table-lt-TABLE_WORDS-clause-equals
@@ -17,26 +14,17 @@ returns-then-table-lt-TABLE_WORDS-clause-equals c = too_short _ _ _ _ _ (three_s
 
 pub answer_of-requires : goal.answer_of-requires
 answer_of-requires c =
-    refusal_small (table_of_words c.args.table.now) c.args.fields.now c.if-fields-lt-JOINT_WORDS.false c.in-Err.ensures.equals
+    refusal_small (table_of_words c.args.table.now) c.args.fields.now c.if-fields-lt-JOINT_WORDS.false c.in-Err.ensures.equals.0
 
 pub returns-in-Ok-clause-equals : goal.returns-in-Ok-clause-equals
 returns-in-Ok-clause-equals c =
-    let is = c.in-Ok.ensures.equals in
     taken _ _ _ _ _ (enough_all c.if-table-lt-TABLE_WORDS.false c.if-fields-lt-JOINT_WORDS.false c.if-res-lt-OUTCOME_WORDS.false)
-    (sym (ap (λ (o : Outcome). o.refusal.number) is))
-    (c.put_outcome.ensures.words_after ∙ ap (λ (o : Outcome). at_front (outcome_words o) c.args.res.now) is)
-
-pub returns-in-Ok-clause-demand : goal.returns-in-Ok-clause-demand
-returns-in-Ok-clause-demand c =
-    let table = table_of_words c.args.table.now in
-    let outcome = outcome_meaning (Ok c.in-Ok.worked) in
-    let eight = c.put_outcome.ensures.forces_len in
-    λ zero. rw c.put_outcome.ensures.words_after
-    (demand_words c.args.res.now table (joint_of_words c.args.fields.now) outcome eight.0 eight.1 c.in-Ok.ensures.demand)
+    c.in-Ok.ensures.equals.0 c.in-Ok.ensures.equals.1
 
 pub returns-in-Err-clause-equals : goal.returns-in-Err-clause-equals
 returns-in-Err-clause-equals c =
-    let is = c.in-Err.ensures.equals in
-    refusal_told _ _ _ _ _ (enough_all c.if-table-lt-TABLE_WORDS.false c.if-fields-lt-JOINT_WORDS.false c.if-res-lt-OUTCOME_WORDS.false)
+    let is = c.in-Err.ensures.equals.0 in
+    rw c.in-Err.ensures.equals.1
+    (refusal_told _ _ _ _ _ (enough_all c.if-table-lt-TABLE_WORDS.false c.if-fields-lt-JOINT_WORDS.false c.if-res-lt-OUTCOME_WORDS.false)
     (λ none. face_some c.in-Err.refused.refusal (ap (λ (o : Outcome). o.refusal.number) is ∙ none))
-    (c.answer_of.ensures ∙ ap (λ (o : Outcome). answer_number o.refusal.number o.refusal.field o.refusal.face) is)
+    (c.answer_of.ensures ∙ ap (λ (o : Outcome). answer_number o.refusal.number o.refusal.field o.refusal.face) is))

@@ -43,13 +43,13 @@ loop-left-preserved g c =
 pub put_read_refusal-requires : goal.put_read_refusal-requires
 put_read_refusal-requires g c =
     let some = some_left c.loop-left.left.now c.loop-left-test.ensures in
-    let line = lines_refused c.loop-left.number c.loop-left.left.now some c.in-Err.refusal c.in-Err.ensures c.number.ensures in
+    let line = lines_refused c.loop-left.number c.loop-left.left.now some c.in-Err.refusal c.in-Err.ensures in
     rw line at c.loop-left.invariant.room
 
 pub returns-in-Err : goal.returns-in-Err
 returns-in-Err g c =
     let some = some_left c.loop-left.left.now c.loop-left-test.ensures in
-    let line = lines_refused c.loop-left.number c.loop-left.left.now some c.in-Err.refusal c.in-Err.ensures c.number.ensures in
+    let line = lines_refused c.loop-left.number c.loop-left.left.now some c.in-Err.refusal c.in-Err.ensures in
     c.loop-left.invariant.carries _ (rw line c.put_read_refusal.ensures)
 
 pub returns : goal.returns

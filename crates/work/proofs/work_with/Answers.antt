@@ -5,9 +5,8 @@ use mathlib.Core.Path.{◌≡◌, sym, ap, ◌∙◌}
 use mathlib.Core.Bool.{true, false}
 use Rattle.joint.specs.Faces.{two_faced}
 use Rattle.joint.specs.declared.Face.{Face}
-use Rattle.outcome.specs.Outcome.{face_meaning, outcome_meaning}
-use Rattle.outcome.specs.declared.RefusedFace.TheVariants.{Only}
-use Rattle.work.specs.Work.{of_one_face, worked_faces}
+use Rattle.outcome.specs.Outcome.{outcome_meaning}
+use Rattle.work.specs.Work.{alone_meaning, worked_faces}
 use Rattle.work.proofs.Cases.{of_two, of_one, demand_alone}
 use Rattle.work.proofs.work_with.Goals as goal
 
@@ -22,20 +21,16 @@ returns-then-is_two_faced-clause-equals c =
 pub returns-in_err-result-clause-equals : goal.returns-in_err-result-clause-equals
 returns-in_err-result-clause-equals c =
     let alone : two_faced c.args.joint.face.rows ≡ false = sym c.is_two_faced.ensures ∙ c.if-is_two_faced.false in
-    let refusal = c.in_err-result.field-0.0.refusal in
-    let told : c.from_residual.result ≡ Err (record { refusal = refusal; face = Only }) = search rules in
-    let answer : c.work_connection.result ≡ Err refusal = search rules in
-    ap outcome_meaning told
-    ∙ ap of_one_face (ap face_meaning (sym answer) ∙ c.work_connection.ensures.equals)
-    ∙ of_one c.args.area c.args.joint alone
+    let refused = c.in_err-result.field-0.0 in
+    let told : c.from_residual.result ≡ Err refused = search rules in
+    let answer : c.work_alone.result ≡ Err refused = search rules in
+    ap outcome_meaning told ∙ ap alone_meaning (sym answer) ∙ c.work_alone.ensures.equals ∙ of_one c.args.area c.args.joint alone
 
 pub returns : goal.returns
 returns c =
     let alone : two_faced c.args.joint.face.rows ≡ false = sym c.is_two_faced.ensures ∙ c.if-is_two_faced.false in
-    let j = c.args.joint in
-    let area = c.args.area in
-    let answer : c.work_connection.result ≡ Ok c.in_ok-result.result = search rules in
+    let answer : c.work_alone.result ≡ Ok c.in_ok-result.result = search rules in
     record {
-      equals = ap of_one_face (ap face_meaning (sym answer) ∙ c.work_connection.ensures.equals) ∙ of_one area j alone;
-      demand = demand_alone area j _ alone (rw answer at c.work_connection.ensures.demand);
+      equals = ap alone_meaning (sym answer) ∙ c.work_alone.ensures.equals ∙ of_one c.args.area c.args.joint alone;
+      demand = demand_alone c.args.area c.args.joint _ alone (rw answer at c.work_alone.ensures.demand);
     }

@@ -12,7 +12,7 @@ pub returns-in-None-clause-words_after : goal.returns-in-None-clause-words_after
 unfolding figure_words
 returns-in-None-clause-words_after c =
     let words = c.args.words.now in
-    let result = c.args.worked.now.result in
+    let result = c.args.of_first.now in
     let size = length-take-le 17 words (omega (arith, c.requires)) in
     let first = first_run words {count = 17} refl (c.put_result.auto.words ∙ size) c.put_result.ensures.words_after in
     let room : length (take 18 (drop 17 (c.put_result.new.words ++ drop 17 words))) ≡ 18 = search rules in
@@ -25,7 +25,7 @@ returns-in-None-clause-words_after c =
 pub returns-in-Some-clause-words_after : goal.returns-in-Some-clause-words_after
 returns-in-Some-clause-words_after c =
     let words = c.args.words.now in
-    let result = c.args.worked.now.result in
+    let result = c.args.of_first.now in
     let size = length-take-le 17 words (omega (arith, c.requires)) in
     let first = first_run words {count = 17} refl (c.put_result.auto.words ∙ size) c.put_result.ensures.words_after in
     let second = put_after {count = 17} first refl (c.put_result-in-Some.auto.words ∙ (search rules)) c.put_result-in-Some.ensures.words_after in
