@@ -4,14 +4,15 @@
 use mathlib.Core.Path.{◌≡◌, refl, sym, ap, ap₂, ◌∙◌}
 use mathlib.Core.Logic.{⊎_elim}
 use Prim.Native.Nat.{ℕ, zero, suc, ◌+◌, ◌-◌, ◌≤◌, ◌<◌, min}
-use native.Mathlib.Nat.{le_refl, le_trans, le_antisymm, le-min, min-le_left, min-le_right, le-suc_iff}
+use native.Mathlib.Nat.{sub-zero, le_refl, le_trans, le_antisymm, le-min, min-le_left, min-le_right, le-suc_iff}
 use native.Mathlib.Omega.{arith}
 use native.Mathlib.Numerals.{add-one}
 use mathlib.Core.List.{List, [], ◌∷◌, ◌++◌}
 use lib.ListN.{length, get_or, set, take, drop, replicate, get_or-replicate}
 use lib.Seq.{set_at, append_snoc}
+use mathlib.Core.List.{append-nil}
 use Rattle.std.proofs.Common.{length-drop, drop-drop}
-use Rattle.std.proofs.lemmas.List.{length-take-le, get_or-take, get_or-drop}
+use Rattle.std.proofs.lemmas.List.{take-replicate, drop-replicate, length-take-le, get_or-take, get_or-drop}
 use Rattle.sharing.specs.Groups.{Table, total, groups_above, place_of, listed, most_limit}
 use Rattle.sharing.proofs.Places.{groups_inside}
 use Rattle.sharing.proofs.Totals.{total-append}
@@ -27,12 +28,12 @@ unfoldable pub allowed : Table → ℕ → ℕ → ℕ → ℕ
 allowed limit n zero k = most_limit
 allowed limit n (suc r) k = min (allowed limit n r k) (sum_down_to limit n r + lowered limit n r k)
 
--- How things stand when `row` rows have their forces.
+-- How things stand when `row` rows have their forces; `forces` are the rows' places.
 pub record SharedDownTo (n : ℕ) (limits : List ℕ) (forces sums : List ℕ) (above : ℕ) (rest : List ℕ) (row : ℕ) : Type 0 where
   pub rows : row ≤ n
   pub place : rest ≡ drop (groups_above n row) limits
   pub sum : above ≡ sum_down_to (listed n limits) n row
-  pub got : forces ≡ forces_down_to (listed n limits) n row ++ replicate (8 - row) 0
+  pub got : forces ≡ forces_down_to (listed n limits) n row ++ replicate (n - row) 0
   pub size : length sums ≡ 8
   pub left : (k : ℕ) → row ≤ k → k < n → get_or sums k 0 ≡ allowed (listed n limits) n row k
 
@@ -87,20 +88,29 @@ module _ (n : ℕ) (limits : List ℕ) (s : Shareable n limits) where
       (le_sum (listed n limits) n k _ (λ i h. allowed_le k (suc k) i (omega arith)))
       (sum_le_allowed k (suc k) (le_refl (suc k)) inside)
 
-  pub start : SharedDownTo n limits (replicate 8 0) (replicate 8 most_limit) 0 limits 0
+  -- as many places are lent as there are rows
+  turns : length (take n (replicate {A = ℕ} 8 0)) ≡ n
+  turns = length-take-le n (replicate {A = ℕ} 8 0) s.rows
+
+  pub start : SharedDownTo n limits (take n (replicate 8 0)) (replicate 8 most_limit) 0 limits 0
   unfolding sum_down_to forces_down_to groups_above allowed
   start =
       record {
         rows = omega arith;
         place = refl;
         sum = refl;
-        got = refl;
+        got =
+            let zero-places : take n (replicate {A = ℕ} 8 0) ≡ replicate n 0 = take-replicate {X = ℕ} n 8 0 s.rows in
+            zero-places ∙ ap (λ m. replicate m 0) (sym (sub-zero n));
         size = refl;
         left = λ k h inside. get_or-replicate 8 k most_limit 0 (omega (arith, s.rows));
       }
 
   module _ (forces sums : List ℕ) (above : ℕ) (rest : List ℕ) (row : ℕ) (d : SharedDownTo n limits forces sums above rest row)
-      (inside : row < n) where
+      (more : row < length (take n (replicate {A = ℕ} 8 0))) where
+    inside : row < n
+    inside = omega (arith, more, turns)
+
     pub rest_length : n - row ≤ length rest
     rest_length = omega (arith, ap length d.place, length-drop (groups_above n row) limits, groups_inside n row inside, s.enough)
 
@@ -142,12 +152,12 @@ module _ (n : ℕ) (limits : List ℕ) (s : Shareable n limits) where
         force : get_or sums' row 0 - above ≡ next_force (listed n limits) n (forces_down_to (listed n limits) n row)
         force = omega (arith, d.sum, down, sum_step (listed n limits) n row)
 
-        stored : set forces row (get_or sums' row 0 - above) ≡ forces_down_to (listed n limits) n (suc row) ++ replicate (8 - suc row) 0
+        stored : set forces row (get_or sums' row 0 - above) ≡ forces_down_to (listed n limits) n (suc row) ++ replicate (n - suc row) 0
         unfolding forces_down_to
         stored =
-            let places : 8 - row ≡ suc (8 - suc row) = omega (arith, s.rows) in
+            let places : n - row ≡ suc (n - suc row) = omega (arith, inside) in
             ap₂ (λ xs x. set xs row x) (d.got ∙ ap (λ m. forces_down_to (listed n limits) n row ++ replicate m 0) places) force
-            ∙ fill (forces_down_to (listed n limits) n row) row (8 - suc row)
+            ∙ fill (forces_down_to (listed n limits) n row) row (n - suc row)
             (next_force (listed n limits) n (forces_down_to (listed n limits) n row))
             (length_forces (listed n limits) n row)
 
@@ -164,14 +174,15 @@ module _ (n : ℕ) (limits : List ℕ) (s : Shareable n limits) where
               left = λ k h under. counted_is_allowed k (omega arith) under;
             })
 
-  pub finish : (forces sums : List ℕ) (above : ℕ) (rest : List ℕ) (row : ℕ) → SharedDownTo n limits forces sums above rest row → n ≤ row
-      → forces ≡ eight_places (shared (listed n limits) n)
+  -- places past the last row are 0
+  pub finish : (forces sums : List ℕ) (above : ℕ) (rest : List ℕ) (row : ℕ) → SharedDownTo n limits forces sums above rest row
+      → length (take n (replicate {A = ℕ} 8 0)) ≤ row → forces ++ drop n (replicate 8 0) ≡ eight_places (shared (listed n limits) n)
   unfolding eight_places shared
   finish forces sums above rest row d past =
-      let all : row ≡ n = omega (arith, d.rows) in
-      d.got
-      ∙ ap (λ k. forces_down_to (listed n limits) n k ++ replicate (8 - k) 0) all
-      ∙ ap (λ k. forces_down_to (listed n limits) n n ++ replicate (8 - k) 0) (sym (length_forces (listed n limits) n n))
+      let all : row ≡ n = omega (arith, d.rows, turns) in
+      let none : n - row ≡ 0 = omega (arith, all) in
+      let got : forces ≡ forces_down_to (listed n limits) n n = d.got ∙ (rw (none, all) (append-nil _)) in
+      rw (got, drop-replicate {X = ℕ} n 8 0, length_forces (listed n limits) n n)
 
   -- no place has more than Allocate takes
   pub force_le_most : (k : ℕ) → get_or (eight_places (shared (listed n limits) n)) k 0 ≤ most_limit

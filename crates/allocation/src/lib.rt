@@ -67,10 +67,10 @@ pub fn share(count: usize, limits: &[u64]) -> [u64; 8]
     let mut sums = [MOST; 8];
     let mut above = 0;
     let mut rest = limits;
-    for row in 0..count {
+    for (row, force) in forces[..count].iter_mut().enumerate() {
         let (own, further) = rest.split_at(count - row);
         count_groups(&mut sums, own, row, count, above);
-        forces[row] = sums[row] - above;
+        *force = sums[row] - above;
         above = sums[row];
         rest = further;
     }

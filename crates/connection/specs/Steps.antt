@@ -1,7 +1,8 @@
 -- What the steps of working a face hand on and rely on: nothing here states a rule. Assumes nothing.
 use Rattle.std.specs.Prelude.{◌≡◌, Bool, ℕ, ◌≤◌, List, length, get_or, take, Result, Ok, Err, ⊤}
-use Rattle.joint.specs.InRange.{ColumnInRange, FaceInRange}
 use Rattle.joint.specs.Places.{eight_places}
+use Rattle.joint.specs.InRange.{ColumnInRange, FaceInRange}
+use Rattle.joint.specs.Ranges.{row_counts}
 use Rattle.joint.specs.declared.Column.{Column}
 use Rattle.joint.specs.declared.Face.{Face}
 use Rattle.sharing.specs.Groups.{most_limit}
@@ -29,6 +30,8 @@ pub record AtWork (c : Column) (b : BoltStrengths) (f : Face) (spacing : Spacing
   pub column : ColumnInRange c
   pub bolt : BoltInRange b
   pub face : FaceInRange f
+  -- which the type says where the face isn't behind a reference
+  pub eight_levers : length f.levers ≡ row_counts.high
   pub distances : spacing ≡ spacing_of c f
   pub strengths : steel ≡ steel_of c f
 

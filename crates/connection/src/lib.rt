@@ -2,11 +2,12 @@
 // verdicts. Rows count from 0.
 #![tactic(auto)]
 
-ghost use Rattle.std.specs.Prelude.{◌≡◌, Bool, ℕ, ◌≤◌, get_or, take, IfOk, OnOk};
+ghost use Rattle.std.specs.Prelude.{◌≡◌, Bool, ℕ, ◌≤◌, get_or, take, length, IfOk, OnOk};
 ghost use Rattle.arithmetic.specs.Checks.{first_failing, checks_before};
 ghost use Rattle.bolttable.specs.InRange.{AreaInRange};
 ghost use Rattle.joint.specs.InRange.{ColumnInRange, FaceInRange};
 ghost use Rattle.joint.specs.Places.{eight_places};
+ghost use Rattle.joint.specs.Ranges.{row_counts};
 ghost use Rattle.compression.specs.InRange.{most_bearing};
 ghost use Rattle.governing.specs.Governing.{force_of};
 ghost use Rattle.outcome.specs.Outcome.{FaceOutcome, face_meaning};
@@ -49,37 +50,37 @@ pub fn work_connection(
 {
     joint::check_fields(shared.column, shared.bolts, shared.area, face)?;
     let bolt = strength::bolt_strengths(shared.bolts, shared.area.unwrap_or(0));
-    FaceAtWork::new(shared.column, bolt, face).work(panel_counts)
+    FaceAtWork::new(&shared.column, bolt, &face).work(panel_counts)
 }
 
 // A face in range on its column, with the figures of its bolts, and what is measured of it before it is admitted: the distances about its
 // bolts, and its steel strengths.
 #[derive(Clone, Copy)]
-struct FaceAtWork {
-    column: Column,
+struct FaceAtWork<'a> {
+    column: &'a Column,
     bolt: BoltStrengths,
-    face: Face,
+    face: &'a Face,
     spacing: Spacing,
     steel: SteelStrengths,
-    ghost at_work: { AtWork column bolt face spacing steel },
+    ghost at_work: { AtWork column.now bolt face.now spacing steel },
 }
 
-impl FaceAtWork {
-    fn new(column: Column, bolt: BoltStrengths, face: Face) -> FaceAtWork
-        requires { ColumnInRange column × BoltInRange bolt × FaceInRange face }
-        ensures { (result.column ≡ column) × (result.bolt ≡ bolt) × (result.face ≡ face) }
+impl<'a> FaceAtWork<'a> {
+    fn new(column: &'a Column, bolt: BoltStrengths, face: &'a Face) -> FaceAtWork<'a>
+        requires { ColumnInRange column.now × BoltInRange bolt × FaceInRange face.now }
+        ensures { (result.column.now ≡ column.now) × (result.bolt ≡ bolt) × (result.face.now ≡ face.now) }
     {
         FaceAtWork {
             column,
             bolt,
             face,
-            spacing: spacing::spacing_of(column, face),
-            steel: strength::steel_strengths(column, face.beam, face.plate),
+            spacing: spacing::spacing_of(*column, *face),
+            steel: strength::steel_strengths(*column, face.beam, face.plate),
         }
     }
 
     fn work(&self, panel_counts: bool) -> Result<FaceResult, FaceRefusal>
-        ensures { face_meaning result ≡ worked_face panel_counts self.now.column self.now.bolt self.now.face }
+        ensures { face_meaning result ≡ worked_face panel_counts self.now.column.now self.now.bolt self.now.face.now }
     {
         self.admit()?;
         let check = self.governing(panel_counts);
@@ -88,15 +89,15 @@ impl FaceAtWork {
     }
 
     // The refusals tried after 10 and before 15.
-    #[tactic(auto, unfolding(crate::specs::Connection::refusals_after_10, arithmetic::specs::Checks::checks_before, arithmetic::specs::Checks::first_failing,))]
+    #[tactic(auto, using(refusals::proofs::Rows::front_falls), unfolding(crate::specs::Connection::refusals_after_10, arithmetic::specs::Checks::checks_before, arithmetic::specs::Checks::first_failing,))]
     fn admit(&self) -> Result<(), FaceRefusal>
         ensures value { (panel_counts : Bool) (outcome : FaceOutcome) → admitted_to outcome result
             ≡ first_failing outcome refused_after_10
-            (checks_before 15 (refusals_after_10 panel_counts self.now.column self.now.bolt self.now.face)) }
-        ensures admissible { OnOk result (Admissible self.now.column self.now.face) }
+            (checks_before 15 (refusals_after_10 panel_counts self.now.column.now self.now.bolt self.now.face.now)) }
+        ensures admissible { OnOk result (Admissible self.now.column.now self.now.face.now) }
     {
-        let face = &self.face;
-        let pitch = refusals::least_pitch(face.rows as usize, face.levers);
+        let face = self.face;
+        let pitch = refusals::least_pitch(&face.levers[..face.rows as usize]);
         if pitch < 1 {
             return Err(FaceRefusal::LeversDontFall);
         }
@@ -109,19 +110,19 @@ impl FaceAtWork {
         if refusals::too_tight(face.extended, self.spacing) {
             return Err(FaceRefusal::TooTight);
         }
-        if strength::both_too_thick(self.column, face.plate, self.steel, self.bolt) {
+        if strength::both_too_thick(*self.column, face.plate, self.steel, self.bolt) {
             return Err(FaceRefusal::TooThick);
         }
         Ok(())
     }
 
     fn governing(&self, panel_counts: bool) -> CompressionCheck
-        ensures { (result ≡ governing_of panel_counts self.now.column self.now.face) × (force_of result ≤ most_bearing) }
+        ensures { (result ≡ governing_of panel_counts self.now.column.now self.now.face.now) × (force_of result ≤ most_bearing) }
     {
-        let face = &self.face;
+        let face = self.face;
         let resistances = compression::resistances_of(
             self.steel,
-            self.column,
+            *self.column,
             face.beam,
             face.plate,
             face.welds,
@@ -131,12 +132,13 @@ impl FaceAtWork {
 
     // The whole result of a face that isn't refused, by its governing check and its cap.
     fn result(&self, check: CompressionCheck, cap: u64) -> FaceResult
-        requires { Admissible self.now.column self.now.face }
-        ensures { (panel_counts : Bool) → FaceCap panel_counts self.now.column self.now.face check cap
-            → result ≡ result_of panel_counts self.now.column self.now.bolt self.now.face }
+        requires { Admissible self.now.column.now self.now.face.now }
+        ensures { (panel_counts : Bool) → FaceCap panel_counts self.now.column.now self.now.face.now check cap
+            → result ≡ result_of panel_counts self.now.column.now self.now.bolt self.now.face.now }
     {
         let forces = self.row_forces(cap);
-        let tally = verdicts::tally_forces(self.face.rows as usize, self.face.levers, forces);
+        let rows = self.face.rows as usize;
+        let tally = verdicts::tally_forces(&self.face.levers[..rows], &forces[..rows]);
         FaceResult {
             forces,
             sum: tally.sum,
@@ -149,18 +151,18 @@ impl FaceAtWork {
 
     // The forces of the rows, under the limits of all groups and the cap on them together.
     fn row_forces(&self, cap: u64) -> [u64; 8]
-        requires { Admissible self.now.column self.now.face }
+        requires { Admissible self.now.column.now self.now.face.now }
         ensures value { result
-            ≡ eight_places (shared (with_cap (limit_of self.now.column self.now.bolt self.now.face) (rows_of self.now.face) cap)
-            (rows_of self.now.face)) }
+            ≡ eight_places (shared (with_cap (limit_of self.now.column.now self.now.bolt self.now.face.now) (rows_of self.now.face.now) cap)
+            (rows_of self.now.face.now)) }
         ensures by_index { (k : ℕ) → get_or result k 0 ≤ most_limit }
     {
         let rows = self.face.rows as usize;
         let whole = rows - 1;
         let mut limits = [0u64; 36];
         tension::group_limits(
-            self.column,
-            self.face,
+            *self.column,
+            *self.face,
             self.spacing,
             self.steel,
             self.bolt.pair_tension,
@@ -172,17 +174,17 @@ impl FaceAtWork {
 
     // The four verdicts on the forces.
     fn judge(&self, forces: [u64; 8], tally: Tally) -> Verdicts
-        requires { Tallied self.now.face forces tally }
-        ensures { result ≡ verdicts_of self.now.column self.now.bolt self.now.face (take (rows_of self.now.face) forces) }
+        requires { Tallied self.now.face.now forces tally }
+        ensures { result ≡ verdicts_of self.now.column.now self.now.bolt self.now.face.now (take (rows_of self.now.face.now) forces) }
     {
-        let face = &self.face;
+        let face = self.face;
         let weld = strength::weld_strength(face.beam.grade, face.plate.grade);
-        let idle = ((face.rows + face.shear_rows) as u64) - tally.pulling;
+        let idle = u64::from(face.rows + face.shear_rows) - tally.pulling;
         Verdicts {
             bending: verdicts::carries_moment(face.loads, face.beam, tally.moment),
             bolts: verdicts::bolts_carry(
                 self.bolt,
-                self.column,
+                *self.column,
                 face.plate,
                 tally.pulling,
                 idle,

@@ -3,27 +3,27 @@
 use mathlib.Core.Path.{◌≡◌, refl, sym, ap, ◌∙◌}
 use mathlib.Core.Bool.{Bool, true, false, ◌&&◌, and_assoc, and-true}
 use Prim.Native.Nat.{ℕ, suc, min, ◌+◌, ◌-◌, ◌≤◌, ◌<◌}
-use native.Mathlib.Nat.{add-suc, suc-add, zero-add}
+use native.Mathlib.Nat.{le_refl, add-suc, suc-add, zero-add}
 use native.Mathlib.Numerals.{add-one}
 use native.Mathlib.Omega.{arith}
 use mathlib.Core.List.{List, [], ◌∷◌}
-use lib.ListN.{length, get_or, take, drop, drop_of_length-le}
-use lib.Seq.{drop-cons, length-take-le, get_or-take}
+use lib.ListN.{length, get_or, take, drop}
+use Rattle.std.proofs.lemmas.List.{take_all}
+use lib.Seq.{length-take-le, get_or-take}
 use lib.Dec.{T, leb, leb→le}
 use borrow.Author.Tests.{leb-true, leb-false, le-leb, lt-leb, ne_eqb}
+use Rattle.std.specs.List.{list_all, enumerate_from}
 use Rattle.arithmetic.specs.Table.{every}
 use Rattle.arithmetic.proofs.Table.{at}
 use Rattle.joint.specs.Ranges.{most_lever}
 use Rattle.refusals.specs.Refusals.{below_above_by, fall_by}
 
--- testing one after the other: the next, and none
-module _ (test : ℕ → ℕ → Bool) (levers : List ℕ) (row : ℕ) where
-  pub next : row < length levers
-      → every test row (drop row levers) ≡ (test row (get_or levers row 0) && every test (row + 1) (drop (row + 1) levers))
-  next h = ap (every test row) (drop-cons levers row 0 h) ∙ rw (add-one row)
-
-  pub none_left : length levers ≤ row → every test row (drop row levers) ≡ true
-  none_left h = ap (every test row) (drop_of_length-le levers {i = row} h)
+-- testing each number of a list with its place
+pub every_by_number : (test : ℕ → ℕ → Bool) (xs : List ℕ) (place : ℕ)
+    → every test place xs ≡ list_all (λ p. test p.0 p.1) (enumerate_from place xs)
+every_by_number test [] place = refl
+every_by_number test (x ∷ xs) place =
+    ap (λ rest. test place x && rest) (rw (add-one place) (every_by_number test xs (suc place)))
 
 -- a test of the lesser of two numbers is a test of both
 of_lesser : (distance a b : ℕ) → leb distance (min a b) ≡ (leb distance a && leb distance b)
@@ -59,18 +59,29 @@ from_row distance row levers above (lever ∷ rest) same =
     rw (ne_eqb (suc row) 0 (omega arith), here, same 0 (omega arith)) (ap (λ b. leb (lever + distance) above && b) others)
 
 module _ (distance : ℕ) where
-  -- `most_lever` stands for no pitch, and no distance asked about is greater
-  pub all_pairs : (rows : ℕ) (levers : List ℕ) → rows ≤ length levers → distance ≤ most_lever
-      → fall_by distance rows levers ≡ (leb distance most_lever && falls_on distance (take rows levers))
+  front_falls_on : (rows : ℕ) (levers : List ℕ) → rows ≤ length levers → fall_by distance rows levers ≡ falls_on distance (take rows levers)
   unfolding fall_by
-  all_pairs rows levers few h =
+  front_falls_on rows levers few =
       go (take rows levers) (λ k used. sym (get_or-take rows levers k 0 (omega (arith, used, length-take-le rows levers few))))
-      ∙ ap (λ b. b && falls_on distance (take rows levers)) (sym (le-leb distance most_lever h))
     where
       go : (xs : List ℕ) → ((k : ℕ) → k < length xs → get_or levers k 0 ≡ get_or xs k 0)
           → every (below_above_by distance levers) 0 xs ≡ falls_on distance xs
       go [] same = refl
       go (x ∷ xs) same = from_row distance 0 levers x xs (λ k used. ap (λ i. get_or levers i 0) (zero-add k) ∙ same k used)
+
+  all_fall_on : (levers : List ℕ) → fall_by distance (length levers) levers ≡ falls_on distance levers
+  all_fall_on levers =
+      front_falls_on (length levers) levers (le_refl _) ∙ ap (falls_on distance) (take_all (length levers) levers (le_refl _))
+
+  -- the levers of so many rows, as a list of their own, fall just so
+  pub front_falls : (rows : ℕ) (levers : List ℕ) → rows ≤ length levers
+      → fall_by distance rows levers ≡ fall_by distance (length (take rows levers)) (take rows levers)
+  front_falls rows levers few = front_falls_on rows levers few ∙ sym (all_fall_on (take rows levers))
+
+  -- `most_lever` stands for no pitch, and no distance asked about is greater
+  pub all_pairs : (levers : List ℕ) → distance ≤ most_lever
+      → fall_by distance (length levers) levers ≡ (leb distance most_lever && falls_on distance levers)
+  all_pairs levers h = all_fall_on levers ∙ ap (λ b. b && falls_on distance levers) (sym (le-leb distance most_lever h))
 
   -- one pair more
   pub next_pair : 0 < distance → (pitch : ℕ) (rest : List ℕ) → 2 ≤ length rest

@@ -12,16 +12,14 @@ ghost use Rattle.refusals.specs.Steps.{PlacesInRange};
 use joint::Face;
 use spacing::Spacing;
 
-// The least pitch of so many rows: how far a lever is below the one above it, 0 where one isn't below. It tells of every distance from 1
-// to the greatest lever whether the levers fall by it. One row has no pitch, and answers the greatest lever. That the array has
-// eight levers is promised too: a caller that has the face in a struct behind a reference doesn't know it.
-pub fn least_pitch(rows: usize, levers: [u32; 8]) -> u64
-    requires { rows ≤ row_counts.high }
-    ensures by_index { (distance : ℕ) → Within (1 to most_lever) distance → fall_by distance rows levers ≡ leb distance result }
-    ensures levers_len { length levers ≡ row_counts.high }
+// The least pitch of the rows: how far a lever is below the one above it, 0 where one isn't below. It tells of every distance from 1 to
+// the greatest lever whether the levers fall by it. One row has no pitch, and answers the greatest lever.
+pub fn least_pitch(levers: &[u32]) -> u64
+    ensures { (distance : ℕ) → Within (1 to most_lever) distance
+        → fall_by distance (length levers.now) levers.now ≡ leb distance result }
 {
     let mut pitch: u32 = 20000;
-    for pair in levers[..rows].windows(2) {
+    for pair in levers.windows(2) {
         pitch = pitch.min(pair[0].saturating_sub(pair[1]));
     }
     u64::from(pitch)
@@ -47,12 +45,7 @@ pub fn rows_in_place(face: Face) -> bool
 fn all_in_place(levers: &[u32], first: usize, over: u32, under: u32) -> bool
     ensures { result ≡ every (in_place first over under) 0 levers.now }
 {
-    for (row, lever) in levers.iter().enumerate() {
-        if !is_in_place(row, first, over, under, *lever) {
-            return false;
-        }
-    }
-    true
+    levers.iter().enumerate().all(|(row, lever)| is_in_place(row, first, over, under, *lever))
 }
 
 // In 64 bits twice a lever fits, whatever the lever.

@@ -1,7 +1,7 @@
 -- What each function requires of its arguments, and the bounds that it names. Work meets all of it: fields are in range, and no limit is
 -- above the greatest.
 -- Assumes nothing.
-use Rattle.std.specs.Prelude.{◌≡◌, List, ℕ, ◌+◌, ◌*◌, ◌≤◌, get_or}
+use Rattle.std.specs.Prelude.{◌≡◌, List, length, ℕ, ◌+◌, ◌*◌, ◌≤◌, get_or}
 use Rattle.arithmetic.specs.Range.{Range, Within, ◌to◌}
 use Rattle.bolttable.specs.Loading.{bolt_diameters}
 use Rattle.joint.specs.Ranges.{row_counts, shear_row_counts, weld_lengths, legs, most_lever}
@@ -30,8 +30,10 @@ pulling_counts = 0 to row_counts.high
 abbrev pub idle_counts : Range
 idle_counts = 0 to row_counts.high + shear_row_counts.high
 
-pub record TallyAsked (n : ℕ) (h forces : List ℕ) : Type 0 where
-  pub rows : n ≤ row_counts.high
+-- levers and forces of as many rows
+pub record TallyAsked (h forces : List ℕ) : Type 0 where
+  pub rows : length forces ≤ row_counts.high
+  pub as_many : length h ≡ length forces
   pub lever_most : (k : ℕ) → get_or h k 0 ≤ most_lever
   pub force_most : (k : ℕ) → get_or forces k 0 ≤ most_limit
 

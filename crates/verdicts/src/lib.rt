@@ -29,16 +29,17 @@ pub struct Tally {
     pub pulling: u64,
 }
 
-pub fn tally_forces(rows: usize, levers: [u32; 8], forces: [u64; 8]) -> Tally
-    requires { TallyAsked rows levers forces }
-    ensures { (result ≡ tally_of (take rows levers) (take rows forces)) × (result.moment ≤ most_moment) }
+// The rows' levers and their forces, as many of each.
+pub fn tally_forces(levers: &[u32], forces: &[u64]) -> Tally
+    requires { TallyAsked levers.now forces.now }
+    ensures { (result ≡ tally_of levers.now forces.now) × (result.moment ≤ most_moment) }
 {
     let mut sum = 0;
     let mut moment = 0;
     let mut pulling = 0;
-    for (force, lever) in forces[..rows].iter().zip(&levers[..rows]) {
+    for (force, lever) in forces.iter().zip(levers) {
         sum += *force;
-        moment += *force * (*lever as u64);
+        moment += *force * u64::from(*lever);
         pulling += u64::from(*force != 0);
     }
     Tally {
@@ -53,9 +54,9 @@ pub fn carries_moment(loads: Loads, beam: Beam, moment: u64) -> bool
     requires { BendingAsked loads beam moment }
     ensures { result ≡ carries loads beam moment }
 {
-    let arm = (beam.depth - beam.flange) as i64;
-    let asked = 20000 * (loads.moment as i64) - (loads.axial as i64) * arm;
-    asked <= 2 * (moment as i64)
+    let arm = i64::from(beam.depth - beam.flange);
+    let asked = 20000 * i64::from(loads.moment) - i64::from(loads.axial) * arm;
+    asked <= 2 * moment.cast_signed()
 }
 
 // A pair of bolts bearing on a plate or a flange.
@@ -63,7 +64,7 @@ fn pair_bearing(diameter: u64, thickness: u32, strength: u64) -> u64
     requires { BearingAsked diameter thickness strength }
     ensures { result ≡ diameter * thickness * strength / 5 }
 {
-    diameter * (thickness as u64) * strength / 5
+    diameter * u64::from(thickness) * strength / 5
 }
 
 // The lesser bearing of a pair, on the plate and on the column flange.
@@ -101,10 +102,10 @@ pub fn bolts_carry(
     ensures { result ≡ leb shear (pulling * pulling_pair bolt column plate + idle * idle_pair bolt column plate) }
 {
     let bearing = bearing_of(bolt, column, plate);
-    (shear as u64) <= pairs_total(pulling, idle, bolt.pair_shear, bearing)
+    u64::from(shear) <= pairs_total(pulling, idle, bolt.pair_shear, bearing)
 }
 
-// The sum of the first three rows, two if flush; places past the last row are 0.
+// The sum of the first three rows, two if flush; places past the last row are 0. By place: std's sum over a part is slower.
 #[tactic(auto, unfolding(crate::specs::Welds::top_rows))]
 pub fn top_rows(extended: u32, forces: [u64; 8]) -> u64
     requires { (k : ℕ) → get_or forces k 0 ≤ most_limit }
@@ -119,7 +120,7 @@ fn weld_capacity(leg: u32, length: u32, strength: u64) -> u64
     requires { WeldAsked leg length strength }
     ensures { result ≡ 14 * leg * length * strength / 1000 }
 {
-    14 * (leg as u64) * (length as u64) * strength / 1000
+    14 * u64::from(leg) * u64::from(length) * strength / 1000
 }
 
 // Flange weld, from yb, pw and the sum of the top rows.
@@ -142,7 +143,7 @@ fn flange_capacity(strength: u64, beam: Beam) -> u64
     requires { Within yield_strengths strength × BeamInRange beam }
     ensures { result ≡ strength * beam.flange * beam.width / 100 }
 {
-    strength * (beam.flange as u64) * (beam.width as u64) / 100
+    strength * u64::from(beam.flange) * u64::from(beam.width) / 100
 }
 
 // Web weld, from pw.
@@ -151,5 +152,5 @@ pub fn web_weld(face: Face, strength: u64) -> bool
     requires { FaceInRange face × (strength ≡ weld_strength face.beam.grade face.plate.grade) }
     ensures { result ≡ web_weld_passes face }
 {
-    (face.loads.shear as u64) <= weld_capacity(face.welds.web, face.welds.length, strength)
+    u64::from(face.loads.shear) <= weld_capacity(face.welds.web, face.welds.length, strength)
 }

@@ -11,8 +11,8 @@ split_at-requires c = rest_length _ _ c.requires _ _ _ _ _ c.loop-row.invariant 
 pub count_groups-requires : goal.count_groups-requires
 count_groups-requires c = countable _ _ c.requires _ _ _ _ _ c.loop-row.invariant c.loop-row-test.true _ c.split_at.ensures.front
 
-pub overflow_sub-forces : goal.overflow_sub-forces
-overflow_sub-forces c =
+pub overflow_sub-force : goal.overflow_sub-force
+overflow_sub-force c =
     down_grows _ _ c.requires _ _ _ _ _ c.loop-row.invariant c.loop-row-test.true _ c.split_at.ensures.front _ c.count_groups.ensures
 
 pub loop-row-preserved : goal.loop-row-preserved

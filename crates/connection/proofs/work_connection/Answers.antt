@@ -40,7 +40,7 @@ returns c =
     let a = c.args.shared.now in
     let eight : length c.args.face.levers ≡ row_counts.high = search rules in
     let work : BoltStrengths → FaceOutcome = λ bolt. worked_face c.args.panel_counts a.column bolt c.args.face in
-    let own : worked_face c.args.panel_counts c.new.result.column c.new.result.bolt c.new.result.face ≡ work (bolt_of a.bolts a.area) =
+    let own : worked_face c.args.panel_counts c.new.result.column.now c.new.result.bolt c.new.result.face.now ≡ work (bolt_of a.bolts a.area) =
     λ i. worked_face c.args.panel_counts (c.new.ensures.0 i) ((c.new.ensures.1 ∙ figures here) i) (c.new.ensures.2 i) in
     let equals = c.work.ensures ∙ own
     ∙ ap (λ found. worked_by found (work (bolt_of a.bolts a.area))) (sym c.in_ok-check_fields.was ∙ c.check_fields.ensures) in

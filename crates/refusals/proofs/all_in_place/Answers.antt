@@ -1,15 +1,18 @@
--- `all_in_place` meets its contract: a row that is out of place answers for those after it too. Assumes nothing.
+-- `all_in_place` meets its contract: asking each row with its number is the definition (the law of `Rows`). Assumes nothing.
 use mathlib.Core.Path.{sym, ◌∙◌}
-use native.Mathlib.Omega.{arith}
-use Rattle.std.proofs.Common.{rules}
-use Rattle.refusals.proofs.Rows.{next, none_left}
+use borrow.Author.Rules.{rules}
+use borrow.Author.Tests.{tests}
+use Rattle.std.proofs.lemmas.Iterator.{YieldsList-from_slice}
+use Rattle.std.proofs.lemmas.Iterator.Consumers.{YieldsList-from_enumerate}
+use Rattle.std.proofs.lemmas.Iterator.Search.{all_from_yields_List}
+use Rattle.refusals.specs.Refusals.{in_place}
+use Rattle.refusals.proofs.Rows.{every_by_number}
 use Rattle.refusals.proofs.all_in_place.Goals as goal
 
-pub returns-then-not-is_in_place : goal.returns-then-not-is_in_place
-returns-then-not-is_in_place c = let n = c.loop-row.invariant ∙ next _ _ c.loop-row.row (omega arith) in search rules
-
-pub loop-row-preserved : goal.loop-row-preserved
-loop-row-preserved c = let n = c.loop-row.invariant ∙ next _ _ c.loop-row.row (omega arith) in search rules
-
 pub returns : goal.returns
-returns c = sym (c.loop-row.invariant ∙ none_left _ _ c.loop-row.row (omega arith))
+returns c =
+    let a = c.args in
+    let test = in_place a.first a.over a.under in
+    all_from_yields_List (λ p. test p.0 p.1) _ _ _ c.all.ensures.ran
+    (YieldsList-from_enumerate (YieldsList-from_slice a.levers.now cc) cc) (λ x b q k. search (rules, tests))
+    ∙ sym (every_by_number test a.levers.now 0)

@@ -8,7 +8,7 @@ use Rattle.refusals.proofs.least_pitch.Goals as goal
 
 pub loop-pair-init : goal.loop-pair-init
 loop-pair-init c =
-    (search rules, λ distance within. let all = all_pairs distance c.args.rows c.args.levers (omega arith) within.high in search rules)
+    (search rules, λ distance within. let all = all_pairs distance c.args.levers.now within.high in search rules)
 
 pub loop-pair-preserved : goal.loop-pair-preserved
 loop-pair-preserved c =
@@ -16,8 +16,8 @@ loop-pair-preserved c =
     let s = c.in-Some.ensures.steps in
     (search rules, λ distance within. let more = l.invariant.1 distance within ∙ next_pair distance within.low l.pitch l.pair-iterator.rest.now (omega arith) in search rules)
 
-pub returns-clause-by_index : goal.returns-clause-by_index
-returns-clause-by_index c =
+pub returns : goal.returns
+returns c =
     let l = c.loop-pair in
     let s = c.in-None.ensures.steps in
     λ distance within. rw c.from.ensures (l.invariant.1 distance within ∙ no_pair distance l.pitch l.pair-iterator.rest.now (omega arith))

@@ -3,6 +3,7 @@ use mathlib.Core.Path.{◌≡◌}
 use mathlib.Core.Bool.{◌&&◌}
 use Prim.Native.Nat.{ℕ}
 use lib.Dec.{leb}
+use lib.ListN.{length}
 use Rattle.arithmetic.specs.Range.{Within, ◌to◌}
 use Rattle.joint.specs.Ranges.{most_lever}
 use Rattle.refusals.specs.Refusals.{fall_by}
@@ -13,4 +14,4 @@ abbrev pub invariant-loop-pair : goal.invariant-loop-pair
 invariant-loop-pair l =
     (l.pair-iterator.size ≡ 2)
     × ((distance : ℕ) → Within (1 to most_lever) distance
-    → fall_by distance l.rows l.fn.levers ≡ (leb distance l.pitch && falls_on distance l.pair-iterator.rest.now))
+    → fall_by distance (length l.levers) l.levers ≡ (leb distance l.pitch && falls_on distance l.pair-iterator.rest.now))

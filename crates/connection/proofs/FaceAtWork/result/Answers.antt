@@ -14,18 +14,18 @@ use Rattle.connection.proofs.FaceAtWork.result.Goals as goal
 use Rattle.connection.proofs.FaceAtWork.result.Goals.{After-row_forces-forces}
 
 limits : After-row_forces-forces → Table
-limits c = let s = c.args.self.now in with_cap (limit_of s.column s.bolt s.face) s.face.rows c.args.cap
+limits c = let s = c.args.self.now in with_cap (limit_of s.column.now s.bolt s.face.now) s.face.now.rows c.args.cap
 
 -- the rows' places have the list that was shared
 kept : (c : After-row_forces-forces)
-    → let rows = c.args.self.now.face.rows in take rows c.row_forces-forces.result ≡ shared (limits c) rows
+    → let rows = c.args.self.now.face.now.rows in take rows c.row_forces-forces.result ≡ shared (limits c) rows
 unfolding limits
 kept c =
-    let rows = c.args.self.now.face.rows in
+    let rows = c.args.self.now.face.now.rows in
     ap (take rows) c.row_forces-forces.ensures.value ∙ rows_kept rows (limits c)
 
 places : (c : After-row_forces-forces)
-    → c.row_forces-forces.result ≡ eight_places (take c.args.self.now.face.rows c.row_forces-forces.result)
+    → c.row_forces-forces.result ≡ eight_places (take c.args.self.now.face.now.rows c.row_forces-forces.result)
 unfolding limits
 places c = c.row_forces-forces.ensures.value ∙ ap eight_places (sym (kept c))
 
@@ -33,7 +33,7 @@ pub judge-requires : goal.judge-requires
 judge-requires c =
     let here = (goal.at.judge-requires c).After-row_forces-forces in
     record {
-      rows = ap length (kept here) ∙ (best (limits here) c.args.self.now.face.rows).competes.rows;
+      rows = ap length (kept here) ∙ (best (limits here) c.args.self.now.face.now.rows).competes.rows;
       places = places here;
       bounded = c.row_forces-forces.ensures.by_index;
       tallied = c.tally_forces-tally.ensures.0;
@@ -45,15 +45,15 @@ unfolding result_of newton_metres forces_of limits
 returns c =
     let here = (goal.at.returns c).After-row_forces-forces in
     let s = c.args.self.now in
-    let rows = s.face.rows in
+    let rows = s.face.now.rows in
     λ panel_counts face-cap.
-    let forces = kept here ∙ ap (λ cap. shared (with_cap (limit_of s.column s.bolt s.face) rows cap) rows) face-cap.newtons in
-    let tally = c.tally_forces-tally.ensures.0 ∙ ap (tally_of (levers_of s.face)) forces in
+    let forces = kept here ∙ ap (λ cap. shared (with_cap (limit_of s.column.now s.bolt s.face.now) rows cap) rows) face-cap.newtons in
+    let tally = c.tally_forces-tally.ensures.0 ∙ ap (tally_of (levers_of s.face.now)) forces in
     λ i. record {
       forces = (places here ∙ ap eight_places forces) i;
       sum = (tally i).sum;
       newton_metres = (tally i).moment / 10000;
       cap = face-cap.newtons i;
       check = face-cap.governs i;
-      verdicts = (c.judge.ensures ∙ ap (verdicts_of s.column s.bolt s.face) forces) i;
+      verdicts = (c.judge.ensures ∙ ap (verdicts_of s.column.now s.bolt s.face.now) forces) i;
     }

@@ -10,13 +10,13 @@ use Rattle.connection.proofs.FaceAtWork.row_forces.Goals as goal
 pub share-requires : goal.share-requires
 share-requires c =
     let few = c.requires.face.rows.high in
-    shareable _ _ _ c.group_limits.ensures _ _ (c.args.self.now.face.rows - 1) _ (omega (arith, few))
+    shareable _ _ _ c.group_limits.ensures _ _ (c.args.self.now.face.now.rows - 1) _ (omega (arith, few))
     (omega (arith, c.min.ensures))
 
 pub returns : goal.returns
 returns c =
     let rows = c.requires.face.rows in
-    let n = c.args.self.now.face.rows in
+    let n = c.args.self.now.face.now.rows in
     let table = c.group_limits.ensures in
     let lower = c.min.ensures in
     let shares = shareable _ _ _ table n (n - 1) (n - 1) c.min.result rows.high (omega (arith, lower)) in

@@ -18,8 +18,8 @@ returns-in_err-admit c =
     ap face_meaning told ∙ refused_before_15 _ _ _ _ _ (c.admit.ensures.value c.args.panel_counts) _ c.in_err-admit.was
 
 -- the cap's case is the definition's
-case : (c : After-tension_cap) → let s = c.args.self.now in c.tension_cap.result ≡ cap_case s.face.loads (force_of (governing_of c.args.panel_counts s.column s.face))
-case c = c.tension_cap.ensures ∙ ap (cap_case c.args.self.now.face.loads) (c.force.ensures ∙ ap force_of c.governing-check.ensures.0)
+case : (c : After-tension_cap) → let s = c.args.self.now in c.tension_cap.result ≡ cap_case s.face.now.loads (force_of (governing_of c.args.panel_counts s.column.now s.face.now))
+case c = c.tension_cap.ensures ∙ ap (cap_case c.args.self.now.face.now.loads) (c.force.ensures ∙ ap force_of c.governing-check.ensures.0)
 
 pub returns-in_err-cap : goal.returns-in_err-cap
 returns-in_err-cap c =
