@@ -28,6 +28,7 @@ pub struct Resistances {
 }
 
 // Work calls it for a joint whose fields are in range.
+#[tactic(auto, unfolding(crate::specs::Compression::resistances_of))]
 pub fn resistances_of(
     steel: SteelStrengths,
     column: Column,
@@ -49,6 +50,7 @@ pub fn resistances_of(
 }
 
 // b, in tenths of a millimetre.
+#[tactic(auto, unfolding(crate::specs::Compression::bearing_length))]
 fn bearing_length(column: Column, beam: Beam, plate: Plate, welds: Welds) -> u64
     requires { LengthParts column beam plate welds }
     ensures { result ≡ bearing_length column beam plate welds }
@@ -57,21 +59,23 @@ fn bearing_length(column: Column, beam: Beam, plate: Plate, welds: Welds) -> u64
         + 2 * welds.flange
         + 2 * plate.thickness
         + 5 * (column.flange + column.radius);
-    b as u64
+    u64::from(b)
 }
 
+#[tactic(auto, unfolding(crate::specs::Compression::beam_flange))]
 fn beam_flange(strength: u64, beam: Beam) -> u64
     requires { Within yield_strengths strength × BeamInRange beam }
     ensures { result ≡ beam_flange strength beam }
 {
-    7 * strength * (beam.flange as u64) * (beam.width as u64) / 500
+    7 * strength * u64::from(beam.flange) * u64::from(beam.width) / 500
 }
 
+#[tactic(auto, unfolding(crate::specs::Compression::web_bearing))]
 fn web_bearing(length: u64, strength: u64, column: Column) -> u64
     requires { ColumnWebParts length strength column }
     ensures { result ≡ web_bearing length strength column }
 {
-    length * (column.web as u64) * strength / 100
+    length * u64::from(column.web) * strength / 100
 }
 
 // The root of the limit over 16×dc: its square times 16×dc is at most the limit, and no greater one's is.
@@ -79,19 +83,20 @@ fn web_buckling(length: u64, strength: u64, column: Column) -> u64
     requires { ColumnWebParts length strength column }
     ensures { result ≡ web_buckling length strength column }
 {
-    let web = column.web as u64;
+    let web = u64::from(column.web);
     let squared = web * web;
     let limit = 275 * length * strength * squared * squared;
-    root::square_root(limit / (16 * (column.clear as u64))).unwrap_or(0)
+    root::square_root(limit / (16 * u64::from(column.clear))).unwrap_or(0)
 }
 
 // A buckling force, reduced near an end of the column. z and 0.7×dc are compared ten times as large, so that neither is rounded.
+#[tactic(auto, unfolding(crate::specs::Compression::reduced_near_end))]
 fn reduced_near_end(force: u64, column: Column) -> u64
     requires { (force < 2 ^ 32) × ColumnInRange column }
     ensures { result ≡ reduced_near_end force column }
 {
-    let clear = column.clear as u64;
-    let distance = column.end_distance as u64;
+    let clear = u64::from(column.clear);
+    let distance = u64::from(column.end_distance);
     if 10 * distance < 7 * clear {
         return force * (10 * distance + 7 * clear) / (14 * clear);
     }
@@ -99,9 +104,10 @@ fn reduced_near_end(force: u64, column: Column) -> u64
 }
 
 // Work asks it for the panel of a column with two beams too.
+#[tactic(auto, unfolding(crate::specs::Compression::panel_shear))]
 pub fn panel_shear(strength: u64, column: Column) -> u64
     requires { Within yield_strengths strength × ColumnInRange column }
     ensures { result ≡ panel_shear strength column }
 {
-    3 * strength * (column.web as u64) * (column.depth as u64) / 500
+    3 * strength * u64::from(column.web) * u64::from(column.depth) / 500
 }

@@ -1,9 +1,10 @@
 -- The two cases of the cap: which way refusal 15 goes, that a cap which isn't below 0 is its newtons, and how large those are. Assumes
 -- nothing.
-use mathlib.Core.Path.{◌≡◌, refl, ap}
+use mathlib.Core.Path.{◌≡◌, refl, ap, ◌∙◌}
 use mathlib.Core.Bool.{Bool, true, false, cond}
-use Prim.Native.Nat.{ℕ, zero, suc, ◌+◌, ◌-◌, ◌≤◌}
-use Rattle.std.proofs.Common.{Some, None}
+use Prim.Native.Nat.{ℕ, zero, suc, ◌+◌, ◌-◌, ◌^◌, ◌≤◌}
+use Rattle.std.proofs.Common.{Option, Some, None, SomeIff, w64}
+use Rattle.std.specs.Int.{FitsUnsigned}
 use Rattle.std.proofs.lemmas.Int.{ints}
 use native.Mathlib.Omega.{arith}
 use lib.Dec.{ltb}
@@ -14,13 +15,13 @@ use Rattle.governing.specs.Cap.{tension_cap, over_compressed, newtons_of}
 use Rattle.governing.specs.Answers.{cap_case}
 
 -- the answer by the sign of the governing force less N
-pub below_zero : (loads : Loads) (force : ℕ) → (pos force -ℤ loads.axial) <ℤ pos 0 → None ≡ cap_case loads force
+below_zero : (loads : Loads) (force : ℕ) → (pos force -ℤ loads.axial) <ℤ pos 0 → None ≡ cap_case loads force
 unfolding cap_case over_compressed
 below_zero loads force h =
     let over : lt_z (pos force) loads.axial ≡ true = grind (arith, ints) in
     rw over
 
-pub not_below_zero : (loads : Loads) (force : ℕ) → pos 0 ≤ℤ (pos force -ℤ loads.axial)
+not_below_zero : (loads : Loads) (force : ℕ) → pos 0 ≤ℤ (pos force -ℤ loads.axial)
     → Some (nat_abs (pos force -ℤ loads.axial)) ≡ cap_case loads force
 unfolding cap_case over_compressed tension_cap
 not_below_zero loads force h =
@@ -30,6 +31,16 @@ not_below_zero loads force h =
     size : (cap : ℤ) → pos 0 ≤ℤ cap → nat_abs cap ≡ newtons_of cap
     size (pos n) k = refl
     size (negsuc n) k = absurd (omega (arith, ints))
+
+-- so the governing force less N, where it is a number of 64 bits with no sign, is the answer
+pub cap_found : (loads : Loads) (force : ℕ) (found : Option ℕ) → (pos force -ℤ loads.axial) <ℤ pos (2 ^ 64)
+    → SomeIff found (FitsUnsigned w64 (pos force -ℤ loads.axial)) (nat_abs (pos force -ℤ loads.axial)) → found ≡ cap_case loads force
+cap_found loads force None small unfit = below_zero loads force (negative (pos force -ℤ loads.axial) small unfit)
+  where
+    negative : (cap : ℤ) → cap <ℤ pos (2 ^ 64) → ¬ FitsUnsigned w64 cap → cap <ℤ pos 0
+    negative (pos n) small unfit = absurd (unfit (omega (arith, ints), small))
+    negative (negsuc n) small unfit = omega (arith, ints)
+cap_found loads force (Some cap) small fit = ap Some fit.1 ∙ not_below_zero loads force fit.0.0
 
 pub exceeded : (loads : Loads) (force : ℕ) → None ≡ cap_case loads force → over_compressed loads force ≡ true
 unfolding cap_case

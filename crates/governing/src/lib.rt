@@ -65,9 +65,5 @@ pub fn tension_cap(force: u64, loads: Loads) -> Option<u64>
     requires { (force ≤ most_bearing) × LoadsInRange loads }
     ensures { result ≡ cap_case loads force }
 {
-    let cap = (force as i64) - (loads.axial as i64);
-    if cap < 0 {
-        return None;
-    }
-    Some(cap as u64)
+    force.checked_sub_signed(i64::from(loads.axial))
 }

@@ -32,5 +32,5 @@ fn governing_total(sum: u64, loads: Loads) -> i64
     requires { (sum < 2 ^ 32) × LoadsInRange loads }
     ensures { result ≡ governing_total sum loads }
 {
-    (sum as i64) + (loads.axial as i64)
+    sum.cast_signed() + i64::from(loads.axial)
 }

@@ -43,20 +43,20 @@ pub fn spacing_of(column: Column, face: Face) -> Spacing
 fn bolt_distance(gauge: u32, web: u32, fillet: u32) -> u64
     ensures { result ≡ 5 * (gauge - web) - 8 * fillet }
 {
-    (5 * (gauge as u64)).saturating_sub(5 * (web as u64) + 8 * (fillet as u64))
+    (5 * u64::from(gauge)).saturating_sub(5 * u64::from(web) + 8 * u64::from(fillet))
 }
 
 // e, from a bolt to the edge.
 fn edge_distance(width: u32, gauge: u32) -> u64
     ensures { result ≡ 5 * (width - gauge) }
 {
-    (5 * (width as u64)).saturating_sub(5 * (gauge as u64))
+    (5 * u64::from(width)).saturating_sub(5 * u64::from(gauge))
 }
 
 // mx, from the extension row to the weld on the beam flange.
 fn extension_distance(lever: u32, flange: u32, depth: u32, weld: u32) -> u64
     ensures { result ≡ 5 * (2 * lever + flange - 2 * depth) - 8 * weld }
 {
-    let above = 10 * (lever as u64) + 5 * (flange as u64);
-    above.saturating_sub(10 * (depth as u64) + 8 * (weld as u64))
+    let above = 10 * u64::from(lever) + 5 * u64::from(flange);
+    above.saturating_sub(10 * u64::from(depth) + 8 * u64::from(weld))
 }

@@ -107,10 +107,10 @@ pub fn weld_strength(beam_grade: u32, plate_grade: u32) -> u64
 pub fn bolt_strengths(bolts: Bolts, area: u32) -> BoltStrengths
     ensures { result ≡ bolt_strengths bolts area }
 {
-    let pair = 2 * (area as u64);
+    let pair = 2 * u64::from(area);
     let class = class_strengths(bolts.class);
     BoltStrengths {
-        diameter: bolts.diameter as u64,
+        diameter: u64::from(bolts.diameter),
         pair_tension: pair * class.tension / 10,
         pair_shear: pair * class.shear / 10,
         bearing: class.bearing,
@@ -178,6 +178,6 @@ fn too_thick(thickness: u32, strength: u64, limit: u64) -> bool
     requires { (thickness ≤ most_thickness) × Within yield_strengths strength }
     ensures { result ≡ too_thick thickness strength limit }
 {
-    let t = thickness as u64;
+    let t = u64::from(thickness);
     limit < 361 * t * t * strength
 }

@@ -38,7 +38,7 @@ impl Stub {
         ensures { result ≡ stub_of m (min edge (5 * m / 4)) thickness strength pair }
     {
         let effective = edge.min(5 * m / 4);
-        let t = thickness as u64;
+        let t = u64::from(thickness);
         Stub {
             flexure: t * t * strength,
             yielding: 100 * m,
@@ -87,8 +87,8 @@ pub fn extension_length(m: u64, edge: u32, plate_edge: u64, gauge: u32, width: u
     ensures { result ≡ extension_length m edge plate_edge gauge width }
 {
     let half_circle = 6283 * m / 2000;
-    let end = 10 * (edge as u64);
-    let g = gauge as u64;
+    let end = 10 * u64::from(edge);
+    let g = u64::from(gauge);
     let half_end = 2 * m + 5 * end / 8;
     (6283 * m / 1000)
         .min(half_circle + 10 * g)
@@ -96,7 +96,7 @@ pub fn extension_length(m: u64, edge: u32, plate_edge: u64, gauge: u32, width: u
         .min(4 * m + 5 * end / 4)
         .min(half_end + plate_edge)
         .min(half_end + 5 * g)
-        .min(5 * (width as u64))
+        .min(5 * u64::from(width))
 }
 
 // A web's tension: 173g, the rise, and the web's thickness times its strength.

@@ -15,16 +15,16 @@ squared : {b yc : ℕ} {column : Column} → ColumnWebParts b yc column
 squared r = r.column.web ⊗ r.column.web
 
 pub overflow_mul-squared : goal.overflow_mul-squared
-overflow_mul-squared c = fits (squared c.requires) tt
+overflow_mul-squared c = rw c.from-web.ensures (fits (squared c.requires) tt)
 
 pub overflow_mul-limit-2 : goal.overflow_mul-limit-2
 overflow_mul-limit-2 c = let r = c.requires in fits (exactly 275 ⊗ r.bearing_length ⊗ r.strength) tt
 
 pub overflow_mul-limit-3 : goal.overflow_mul-limit-3
-overflow_mul-limit-3 c = let r = c.requires in fits (exactly 275 ⊗ r.bearing_length ⊗ r.strength ⊗ squared r) tt
+overflow_mul-limit-3 c = let r = c.requires in rw c.from-web.ensures (fits (exactly 275 ⊗ r.bearing_length ⊗ r.strength ⊗ squared r) tt)
 
 pub overflow_mul-limit-4 : goal.overflow_mul-limit-4
-overflow_mul-limit-4 c = let r = c.requires in fits (exactly 275 ⊗ r.bearing_length ⊗ r.strength ⊗ squared r ⊗ squared r) tt
+overflow_mul-limit-4 c = let r = c.requires in rw c.from-web.ensures (fits (exactly 275 ⊗ r.bearing_length ⊗ r.strength ⊗ squared r ⊗ squared r) tt)
 
 pub returns : goal.returns
-returns c = let a = c.args in rw (c.unwrap_or.ensures, c.square_root.ensures) (buckling_root a.length a.strength a.column c.requires)
+returns c = let a = c.args in rw (c.unwrap_or.ensures, c.square_root.ensures, c.from-web.ensures, c.from.ensures) (buckling_root a.length a.strength a.column c.requires)

@@ -6,10 +6,10 @@ use Rattle.stubs.specs.InRange.{edge_distances}
 use Rattle.stubs.proofs.Stub.new.Goals as goal
 
 pub overflow_mul-result : goal.overflow_mul-result
-overflow_mul-result c = fits (c.requires.thickness ⊗ c.requires.thickness) tt
+overflow_mul-result c = rw c.from-t.ensures (fits (c.requires.thickness ⊗ c.requires.thickness) tt)
 
 pub overflow_mul-result-2 : goal.overflow_mul-result-2
-overflow_mul-result-2 c = fits (c.requires.thickness ⊗ c.requires.thickness ⊗ c.requires.strength) tt
+overflow_mul-result-2 c = rw c.from-t.ensures (fits (c.requires.thickness ⊗ c.requires.thickness ⊗ c.requires.strength) tt)
 
 pub overflow_mul-result-5 : goal.overflow_mul-result-5
 overflow_mul-result-5 c =
