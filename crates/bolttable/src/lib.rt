@@ -128,14 +128,14 @@ fn area_among(diameters: &[u32], areas: &[u32], diameter: u32) -> Option<u32>
 {
     let mut found = None;
     let mut last = BELOW_LEAST;
-    for (next, area) in diameters.iter().zip(areas) {
-        if !may_follow(last, *next, *area) {
+    for (&next, &area) in diameters.iter().zip(areas) {
+        if !may_follow(last, next, area) {
             return None;
         }
-        if diameter == *next {
-            found = Some(*area);
+        if diameter == next {
+            found = Some(area);
         }
-        last = *next;
+        last = next;
     }
     found
 }
@@ -166,13 +166,13 @@ fn check_sizes(diameters: &[u32], areas: &[u32]) -> Result<(), TableRefusal>
     let mut rise = true;
     let mut fit = true;
     let mut last = BELOW_LEAST;
-    for (diameter, area) in diameters.iter().zip(areas) {
-        if !is_in_range(*diameter, *area) {
+    for (&diameter, &area) in diameters.iter().zip(areas) {
+        if !is_in_range(diameter, area) {
             return Err(TableRefusal::OutOfRange);
         }
-        rise = rise & (last < *diameter);
-        fit = fit & (*area <= 785 * *diameter * *diameter / 100);
-        last = *diameter;
+        rise &= last < diameter;
+        fit &= area <= 785 * diameter * diameter / 100;
+        last = diameter;
     }
     if !rise {
         return Err(TableRefusal::DiametersDontRise);

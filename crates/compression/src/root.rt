@@ -22,7 +22,7 @@ pub fn square_root(x: u64) -> Option<u64>
 fn first_guess(x: u64) -> u64
     ensures { Guess x result }
 {
-    let half = (64 - u64::leading_zeros(x)) / 2;
+    let half = (64 - x.leading_zeros()) / 2;
     let power = 1u64 << half;
     let quotient = x >> half;
     (power + quotient) / 2

@@ -24,10 +24,10 @@ impl CompressionCheck {
         ensures { result ≡ force_of self }
     {
         match self {
-            CompressionCheck::Flange(force) => force,
-            CompressionCheck::Bearing(force) => force,
-            CompressionCheck::Buckling(force) => force,
-            CompressionCheck::Panel(force) => force,
+            CompressionCheck::Flange(force)
+            | CompressionCheck::Bearing(force)
+            | CompressionCheck::Buckling(force)
+            | CompressionCheck::Panel(force) => force,
         }
     }
 

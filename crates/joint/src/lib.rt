@@ -298,12 +298,12 @@ fn check_loads(loads: Loads, end_distance: u32) -> Result<(), OutOfRange>
     in_range(30, end_distance, 1, 15000)
 }
 
-// Fields 31 to 38: the levers of the rows, and the spare ones, which are 0.
+// Fields 31 to 38: the levers of the rows, and the spare ones, which are 0. A row is below 8, so `as` keeps it; `try_from` would unwrap.
 fn check_levers(rows: u32, levers: [u32; 8]) -> Result<(), OutOfRange>
     ensures { result ≡ found_by (lever_checks rows 0 levers) }
 {
-    for (row, lever) in levers.iter().enumerate() {
-        check_lever(rows, row as u32, *lever)?;
+    for (row, &lever) in levers.iter().enumerate() {
+        check_lever(rows, row as u32, lever)?;
     }
     Ok(())
 }

@@ -14,9 +14,9 @@ use Rattle.bolttable.proofs.area_among.Goals as goal
 use Rattle.bolttable.proofs.area_among.Goals.{Else-not-may_follow}
 
 -- a size that may follow leaves the same to be found
-on : (c : Else-not-may_follow) (here : Bool) → eqb c.args.diameter c.in-Some.next.now ≡ here
-    → area_passed c.args.diameter c.in-Some.next.now (cond here (Some c.in-Some.area.now) c.loop-next.found)
-    (drop (length (c.loop-next.yielded ++ ((c.in-Some.next, c.in-Some.area) ∷ []))) (all_sizes c.args.diameters.now c.args.areas.now))
+on : (c : Else-not-may_follow) (here : Bool) → eqb c.args.diameter c.in-Some.field-0-0.now ≡ here
+    → area_passed c.args.diameter c.in-Some.field-0-0.now (cond here (Some c.in-Some.field-0-1.now) c.loop-next.found)
+    (drop (length (c.loop-next.yielded ++ ((c.in-Some.field-0-0, c.in-Some.field-0-1) ∷ []))) (all_sizes c.args.diameters.now c.args.areas.now))
     ≡ area_passed c.args.diameter below_least None (all_sizes c.args.diameters.now c.args.areas.now)
 on c here is =
     let l = c.loop-next in
