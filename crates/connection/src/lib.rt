@@ -161,8 +161,8 @@ impl<'a> FaceAtWork<'a> {
         let whole = rows - 1;
         let mut limits = [0u64; 36];
         tension::group_limits(
-            *self.column,
-            *self.face,
+            self.column,
+            self.face,
             self.spacing,
             self.steel,
             self.bolt.pair_tension,

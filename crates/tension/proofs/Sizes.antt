@@ -9,7 +9,7 @@ use native.Mathlib.Omega.{arith}
 use lib.Dec.{eqb}
 use lib.ListN.{get_or}
 use Rattle.arithmetic.specs.Range.{Within, ◌to◌}
-use Rattle.arithmetic.proofs.Bounds.{exactly, ◌⊗◌, ◌⊘◌, loosen, cond_le}
+use Rattle.arithmetic.proofs.Bounds.{exactly, ◌⊗◌, ◌⊘◌, loosen}
 use Rattle.joint.specs.Ranges.{edges}
 use Rattle.joint.specs.declared.Column.{Column}
 use Rattle.joint.specs.declared.Face.{Face}
@@ -20,24 +20,11 @@ use Rattle.strength.specs.declared.SteelStrengths.{SteelStrengths}
 use Rattle.strength.proofs.Ranges.{steel_range, steel_in_range}
 use Rattle.spacing.specs.Spacing.{spacing_of}
 use Rattle.spacing.specs.declared.Spacing.{Spacing}
-use Rattle.stubs.specs.InRange.{
-  bolt_distances,
-  extension_distances,
-  edge_distances,
-  most_pattern,
-  most_web_length,
-  most_web,
-  StubParts,
-  ExtensionParts,
-}
+use Rattle.stubs.specs.InRange.{bolt_distances, extension_distances, edge_distances, most_pattern, most_web_length, most_web, StubParts}
 use Rattle.stubs.proofs.Sizes.{stub_within, lengths_within}
-use Rattle.tension.specs.Dimensions.{dimensions_of, plate_side_by}
+use Rattle.tension.specs.Dimensions.{dimensions_of}
 use Rattle.tension.specs.InRange.{DimensionsWithin}
 use Rattle.tension.specs.Admissible.{Admissible, FiguresGiven, ExtensionFigures, Levers}
-use Rattle.tension.specs.declared.Dimensions.{Dimensions}
-
-pub plate_side_le : (d : Dimensions) → DimensionsWithin d → (i : ℕ) → plate_side_by d i ≤ most_pattern
-plate_side_le d w i = cond_le (eqb i d.first) _ _ most_pattern w.near_flange.high w.plate_lengths.side.high
 
 -- The distances and strengths of a face that refusals 10, 11 and 13 let pass.
 pub record Sizes (spacing : Spacing) (steel : SteelStrengths) : Type 0 where
@@ -154,14 +141,4 @@ module _ (face : Face) (mx e yp W : ℕ) (x : ExtensionFigures face mx e yp W) w
           thickness = loosen (0 to most_thickness) x.face.plate.thickness tt;
           strength = rw x.strength (steel_range _ _ x.face.plate.grade (omega (arith, x.face.plate.thickness.high)));
           pair = x.pair;
-        }
-
-    pub length_parts : ExtensionParts mx face.layout.edge e face.layout.gauge face.plate.width
-    length_parts =
-        record {
-          distance = distance_range;
-          edge_most = edge_field_le;
-          plate_edge = record { low = x.edge_least; high = omega (arith, x.edge, x.face.plate.width.high) };
-          gauge = x.face.layout.gauge;
-          width = x.face.plate.width;
         }

@@ -41,14 +41,14 @@ pub struct Dimensions {
 impl Dimensions {
     // What of the limits is the same for every group.
     fn new(
-        column: Column,
-        face: Face,
+        column: &Column,
+        face: &Face,
         spacing: Spacing,
         steel: SteelStrengths,
         pair: u64,
     ) -> Dimensions
-        requires { Admissible column face × FiguresGiven column face spacing steel pair }
-        ensures { result ≡ dimensions_of column face pair }
+        requires { Admissible column.now face.now × FiguresGiven column.now face.now spacing steel pair }
+        ensures { result ≡ dimensions_of column.now face.now pair }
     {
         let edge = spacing.column_edge.min(spacing.plate_edge);
         Dimensions {
@@ -56,7 +56,7 @@ impl Dimensions {
             plate: Stub::new(spacing.plate, edge, face.plate.thickness, steel.plate, pair),
             column_lengths: Lengths::new(spacing.column, spacing.column_edge),
             plate_lengths: Lengths::new(spacing.plate, spacing.plate_edge),
-            near_flange: (face.layout.alpha as u64) * spacing.plate / 100,
+            near_flange: u64::from(face.layout.alpha) * spacing.plate / 100,
             extension_limit: extension_limit(
                 face,
                 spacing.extension,
@@ -64,76 +64,12 @@ impl Dimensions {
                 steel.plate,
                 pair,
             ),
-            web_length: 173 * (face.layout.gauge as u64),
-            column_web: (column.web as u64) * steel.column,
-            beam_web: (face.beam.web as u64) * steel.beam,
+            web_length: 173 * u64::from(face.layout.gauge),
+            column_web: u64::from(column.web) * steel.column,
+            beam_web: u64::from(face.beam.web) * steel.beam,
             pair,
             first: face.extended as usize,
         }
-    }
-
-    // The bending limit of a group's column flange.
-    #[tactic(auto, unfolding(crate::specs::Dimensions::column_by))]
-    fn column_limit(&self, rows: u64, rise: u64) -> u64
-        requires { GroupInRange self.now rows rise }
-        ensures { result ≡ column_by self.now rows rise }
-    {
-        let lengths = self.column_lengths;
-        let length = effective_length(lengths.circular, lengths.side, rise);
-        self.column.bending(self.pair, rows, length)
-    }
-
-    // The plate's side yielding for a group that begins at a row.
-    fn plate_side(&self, row: usize) -> u64
-        ensures { result ≡ plate_side_by self.now row }
-    {
-        if row == self.first {
-            self.near_flange
-        } else {
-            self.plate_lengths.side
-        }
-    }
-
-    // A limit with the end plate's, where there is one.
-    #[tactic(auto, unfolding(crate::specs::Dimensions::plate_by))]
-    fn with_plate(&self, row: usize, rows: u64, rise: u64, limit: u64) -> u64
-        requires { GroupInRange self.now rows rise }
-        ensures { result ≡ plate_by self.now row rows rise limit }
-    {
-        if row < self.first {
-            if rows == 1 {
-                return limit.min(self.extension_limit);
-            }
-            return limit;
-        }
-        let circular = self.plate_lengths.circular;
-        let length = effective_length(circular, self.plate_side(row), rise);
-        limit.min(self.plate.bending(self.pair, rows, length))
-    }
-
-    // A limit with the webs'.
-    #[tactic(auto, unfolding(crate::specs::Dimensions::webs_by))]
-    fn with_webs(&self, row: usize, rise: u64, limit: u64) -> u64
-        requires { DimensionsWithin self.now × Within rises rise }
-        ensures { result ≡ webs_by self.now row rise limit }
-    {
-        let web = limit.min(web_tension(self.web_length, rise, self.column_web));
-        if self.first < row {
-            web.min(web_tension(self.web_length, rise, self.beam_web))
-        } else {
-            web
-        }
-    }
-
-    // The limit of the group of so many rows from a row on.
-    #[tactic(auto, unfolding(crate::specs::Dimensions::limit_by))]
-    fn group_limit(&self, row: usize, rows: u64, rise: u64) -> u64
-        requires { GroupInRange self.now rows rise }
-        ensures { result ≡ limit_by self.now row rows rise }
-    {
-        let flange = self.column_limit(rows, rise);
-        let plate = self.with_plate(row, rows, rise, flange);
-        self.with_webs(row, rise, plate)
     }
 
     // Every group's limit, row by row.
@@ -164,9 +100,85 @@ impl Dimensions {
             → FilledTo rows (limits_by self.now levers.now) entry (first + (rows - row)) table.new }
     {
         for last in row..rows {
-            let rise = (levers[row] - levers[last]) as u64;
-            let limit = self.group_limit(row, (last - row) as u64 + 1, rise);
-            table[first + (last - row)] = limit;
+            let group = Group {
+                dimensions: self,
+                row,
+                rows: (last - row) as u64 + 1,
+                rise: u64::from(levers[row] - levers[last]),
+            };
+            table[first + (last - row)] = group.limit();
+        }
+    }
+}
+
+// A group of a face's rows: the row that it begins at, how many rows it has, and its rise.
+#[derive(Clone, Copy)]
+struct Group<'a> {
+    dimensions: &'a Dimensions,
+    row: usize,
+    rows: u64,
+    rise: u64,
+    ghost in_range: { GroupInRange dimensions.now rows rise },
+}
+
+impl<'a> Group<'a> {
+    // The least of the limits that apply.
+    #[tactic(auto, unfolding(crate::specs::Dimensions::limit_by))]
+    fn limit(&self) -> u64
+        ensures { result ≡ limit_by self.now.dimensions.now self.now.row self.now.rows self.now.rise }
+    {
+        self.with_webs(self.with_plate(self.column_limit()))
+    }
+
+    // The bending limit of the column flange.
+    #[tactic(auto, unfolding(crate::specs::Dimensions::column_by))]
+    fn column_limit(&self) -> u64
+        ensures { result ≡ column_by self.now.dimensions.now self.now.rows self.now.rise }
+    {
+        let d = self.dimensions;
+        let lengths = d.column_lengths;
+        let length = effective_length(lengths.circular, lengths.side, self.rise);
+        d.column.bending(d.pair, self.rows, length)
+    }
+
+    // A limit with the end plate's, where there is one.
+    #[tactic(auto, unfolding(crate::specs::Dimensions::plate_by))]
+    fn with_plate(&self, limit: u64) -> u64
+        ensures { result ≡ plate_by self.now.dimensions.now self.now.row self.now.rows self.now.rise limit }
+    {
+        let d = self.dimensions;
+        if self.row < d.first {
+            if self.rows == 1 {
+                return limit.min(d.extension_limit);
+            }
+            return limit;
+        }
+        let length = effective_length(d.plate_lengths.circular, self.plate_side(), self.rise);
+        limit.min(d.plate.bending(d.pair, self.rows, length))
+    }
+
+    // The plate's side yielding, near the beam flange or elsewhere.
+    fn plate_side(&self) -> u64
+        ensures { result ≡ plate_side_by self.now.dimensions.now self.now.row }
+    {
+        if self.row == self.dimensions.first {
+            self.dimensions.near_flange
+        } else {
+            self.dimensions.plate_lengths.side
+        }
+    }
+
+    // A limit with the webs'.
+    #[tactic(auto, unfolding(crate::specs::Dimensions::webs_by))]
+    fn with_webs(&self, limit: u64) -> u64
+        ensures { result ≡ webs_by self.now.dimensions.now self.now.row self.now.rise limit }
+    {
+        let d = self.dimensions;
+        let web = limit.min(web_tension(d.web_length, self.rise, d.column_web));
+        if d.first < self.row {
+            web.min(web_tension(d.web_length, self.rise, d.beam_web))
+        } else {
+            web
         }
     }
 }
@@ -174,31 +186,31 @@ impl Dimensions {
 // The limit of every group of a face's rows, put at the front of a lent table: groups 1–1, 1–2, .. 1–n, 2–2 and so on. Places past the
 // last group stay as they are.
 pub fn group_limits(
-    column: Column,
-    face: Face,
+    column: &Column,
+    face: &Face,
     spacing: Spacing,
     steel: SteelStrengths,
     pair: u64,
     table: &mut [u64; 36],
 )
-    requires { LimitsAsked column face spacing steel pair }
-    ensures { TableFilled face.rows (group_limit column face pair) table.old table.new }
+    requires { LimitsAsked column.now face.now spacing steel pair }
+    ensures { TableFilled face.now.rows (group_limit column.now face.now pair) table.old table.new }
 {
     let d = Dimensions::new(column, face, spacing, steel, pair);
     d.fill_limits(face.rows as usize, &face.levers, table);
 }
 
 // The plate limit of the extension row alone, 0 if flush: from mx, the plate's e and its strength.
-fn extension_limit(face: Face, m: u64, plate_edge: u64, strength: u64, pair: u64) -> u64
-    requires { ExtensionFigures face m plate_edge strength pair }
-    ensures { result ≡ cond (eqb face.extended 0) 0 (extension_bending face pair) }
+fn extension_limit(face: &Face, m: u64, plate_edge: u64, strength: u64, pair: u64) -> u64
+    requires { ExtensionFigures face.now m plate_edge strength pair }
+    ensures { result ≡ cond (eqb face.now.extended 0) 0 (extension_bending face.now pair) }
 {
     let plate = face.plate;
     let layout = face.layout;
     if face.extended == 0 {
         return 0;
     }
-    let end = 10 * (layout.edge as u64);
+    let end = 10 * u64::from(layout.edge);
     let stub = Stub::new(m, end, plate.thickness, strength, pair);
     let length = extension_length(m, layout.edge, plate_edge, layout.gauge, plate.width);
     stub.bending(pair, 1, length)

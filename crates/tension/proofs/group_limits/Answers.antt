@@ -11,8 +11,8 @@ fill_limits-requires c =
     record {
       dimensions =
           rw c.new-d.ensures
-          (dimensions_within a.column a.face c.requires.admissible a.pair c.requires.figures.pair);
-      levers = levers_of a.column a.face c.requires.admissible;
+          (dimensions_within a.column.now a.face.now c.requires.admissible a.pair c.requires.figures.pair);
+      levers = levers_of a.column.now a.face.now c.requires.admissible;
     }
 
 pub returns : goal.returns
@@ -23,8 +23,8 @@ returns c =
       size = filled.size;
       agrees = λ row last h inside.
           filled.agrees row last h inside
-          ∙ ap (λ d. limits_by d a.face.levers row last) c.new-d.ensures
-          ∙ limit_worked a.column a.face a.pair row last;
+          ∙ ap (λ d. limits_by d a.face.now.levers row last) c.new-d.ensures
+          ∙ limit_worked a.column.now a.face.now a.pair row last;
       bounded = filled.bounded;
       untouched = filled.untouched;
     }

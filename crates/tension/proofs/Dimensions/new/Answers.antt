@@ -5,42 +5,45 @@ use native.Mathlib.Omega.{arith}
 use Rattle.arithmetic.proofs.Bounds.{◌⊗◌, fits}
 use Rattle.stubs.specs.Worked.{lengths_of}
 use Rattle.tension.specs.Dimensions.{dimensions_of}
-use Rattle.tension.proofs.Sizes.{Sizes, sizes, column_parts, plate_parts}
+use Rattle.tension.proofs.Sizes.{Sizes, sizes, column_parts, plate_parts, extension_figures}
 use Rattle.tension.proofs.Worked.{column_stub, plate_stub}
 use Rattle.tension.proofs.Dimensions.new.Goals as goal
 use Rattle.tension.proofs.Dimensions.new.Goals.{Start}
 
 sizes_at : (c : Start) → Sizes c.args.spacing c.args.steel
 sizes_at c =
-    sizes c.args.column c.args.face c.requires.0 c.args.spacing c.args.steel c.args.pair c.requires.1
+    sizes c.args.column.now c.args.face.now c.requires.0 c.args.spacing c.args.steel c.args.pair c.requires.1
 
 pub new-requires : goal.new-requires
 new-requires c =
     let here = goal.at.new-requires c in
-    column_parts c.args.column c.args.face c.requires.0 c.args.spacing c.args.steel c.args.pair c.requires.1 _
+    column_parts c.args.column.now c.args.face.now c.requires.0 c.args.spacing c.args.steel c.args.pair c.requires.1 _
     (omega (arith, c.min-edge.ensures, (sizes_at here.Start).column_edge.high, (sizes_at here.Start).plate_edge.high))
 
 pub new-requires-2 : goal.new-requires-2
 new-requires-2 c =
     let here = goal.at.new-requires-2 c in
-    plate_parts c.args.column c.args.face c.requires.0 c.args.spacing c.args.steel c.args.pair c.requires.1 _
+    plate_parts c.args.column.now c.args.face.now c.requires.0 c.args.spacing c.args.steel c.args.pair c.requires.1 _
     (omega (arith, c.min-edge.ensures, (sizes_at here.Start).column_edge.high, (sizes_at here.Start).plate_edge.high))
 
 pub overflow_mul-result-3 : goal.overflow_mul-result-3
 overflow_mul-result-3 c =
     let here = goal.at.overflow_mul-result-3 c in
-    fits (c.requires.0.column.web ⊗ (sizes_at here.Start).strengths.column) tt
+    rw c.from-3.ensures (fits (c.requires.0.column.web ⊗ (sizes_at here.Start).strengths.column) tt)
 
 pub overflow_mul-result-4 : goal.overflow_mul-result-4
 overflow_mul-result-4 c =
     let here = goal.at.overflow_mul-result-4 c in
-    fits (c.requires.0.face.beam.web ⊗ (sizes_at here.Start).strengths.beam) tt
+    rw c.from-4.ensures (fits (c.requires.0.face.beam.web ⊗ (sizes_at here.Start).strengths.beam) tt)
+
+pub extension_limit-requires : goal.extension_limit-requires
+extension_limit-requires c = extension_figures _ _ c.requires.0 _ _ _ c.requires.1
 
 pub returns : goal.returns
 unfolding dimensions_of
 returns c =
-    let column = c.args.column in
-    let face = c.args.face in
+    let column = c.args.column.now in
+    let face = c.args.face.now in
     let m = c.requires.1 in
     λ i. record {
       column = (c.new.ensures ∙ column_stub column face _ _ _ m _ c.min-edge.ensures) i;
@@ -49,11 +52,11 @@ returns c =
           ∙ (λ t. lengths_of (m.distances t).column (m.distances t).column_edge)) i;
       plate_lengths = (c.new-4.ensures
           ∙ (λ t. lengths_of (m.distances t).plate (m.distances t).plate_edge)) i;
-      near_flange = face.layout.alpha * (m.distances i).plate / 100;
+      near_flange = c.from.ensures i * (m.distances i).plate / 100;
       extension_limit = c.extension_limit.ensures i;
-      web_length = 173 * face.layout.gauge;
-      column_web = column.web * (m.strengths i).column;
-      beam_web = face.beam.web * (m.strengths i).beam;
+      web_length = 173 * c.from-2.ensures i;
+      column_web = c.from-3.ensures i * (m.strengths i).column;
+      beam_web = c.from-4.ensures i * (m.strengths i).beam;
       pair = c.args.pair;
       first = face.extended;
     }
