@@ -9,7 +9,7 @@ use native.Mathlib.Omega.{arith}
 use borrow.Author.Tests.{le-leb, leb-true}
 use lib.Dec.{leb, eqb}
 use lib.ListN.{length, get_or, take, drop, length-append, length-drop}
-use lib.Seq.{get_or-set_other, get_or-take, take_at, drop_at, get_or-append-add, length-take-le}
+use lib.Seq.{take_at, drop_at, get_or-append-add, length-take-le}
 use Rattle.arithmetic.specs.Checks.{Check, first_failing}
 use Rattle.arithmetic.proofs.Checks.{one_after_another}
 use Rattle.buffers.specs.Put.{at_front}
@@ -31,7 +31,7 @@ use Rattle.connection.specs.Demand.{Demand3For}
 use Rattle.work.specs.Work.{refused_outcome, of_one_face, if_taken, both_taken, worked_second, worked_faces, worked_with, worked}
 use Rattle.work.specs.Demand.{Demand3Of}
 use Rattle.work.proofs.Cases.{of_one, demand_alone}
-use Rattle.words.specs.Words.{fields_of_words, first_word_count, joint_word_count, words_from, joint_of_words}
+use Rattle.words.specs.Words.{first_word_count, joint_word_count, words_from, joint_of_words}
 use Rattle.words.specs.Results.{face_word_count, flag, figure_words, result_words, panel_flag, outcome_words}
 use Rattle.exports.specs.Calls.{Demand3OfFace, Demand3OfWords}
 
@@ -141,12 +141,6 @@ refusal_small table fields room is =
     rw is
     (work_small _ (joint_of_words fields) (eight_words field_count fields (omega (arith, room)))
     (eight_words (first_word_count + own_count) fields (omega (arith, room))))
-
--- field 1 is the first word
-pub first_word : (fields : List ℕ) → (joint_of_words fields).face.rows ≡ get_or fields 0 0
-unfolding joint_of fields_of_words
-first_word fields =
-    get_or-set_other (take field_count fields) 26 0 _ 0 (λ same. absurd (omega arith)) ∙ get_or-take field_count fields 0 0 (omega arith)
 
 -- a joint with one face, by its parts
 module _ (table : BoltTable) (joint : Joint) {column : Column} {bolts : Bolts} {face : Face} {area : Option ℕ}

@@ -1,5 +1,5 @@
 -- Each exported call: which slices are long enough, which refusal is answered, and what is put where. Assumes nothing.
-use Rattle.std.specs.Prelude.{ℕ, List, ◌≡◌, ◌≤◌, Result, Ok, Err, Bool, true, false, cond, ◌&&◌, leb, eqb, length, get_or, take, drop}
+use Rattle.std.specs.Prelude.{ℕ, List, ◌≡◌, Result, Ok, Err, Bool, true, false, cond, ◌&&◌, leb, eqb, length, get_or, take, drop}
 use Rattle.buffers.specs.Put.{at_front}
 use Rattle.bolttable.specs.Area.{area_of}
 use Rattle.bolttable.specs.Loading.{loaded, built_in}
@@ -76,12 +76,6 @@ working_into table fields words =
     let refusal = outcome.refusal in
     answered (leb table_word_count (length table) && (leb joint_word_count (length fields) && leb outcome_word_count (length words)))
     refusal.number refusal.field refusal.face (at_front (outcome_words outcome) words) words
-
--- The slices that Work is lent are long enough.
-pub record EnoughWords (table_words fields result : List ℕ) : Type 0 where
-  pub of_table : table_word_count ≤ length table_words
-  pub of_joint : joint_word_count ≤ length fields
-  pub of_result : outcome_word_count ≤ length result
 
 -- What Work came to, and what it left in the words: those of an outcome that is no refusal, or nothing.
 abbrev pub WordsPut : Result (Unit {0}) JointRefusal → Outcome → (before after : List ℕ) → Type 0

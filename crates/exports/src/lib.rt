@@ -17,17 +17,17 @@ ghost use Rattle.outcome.specs.Outcome.{number_of, field_of_refusal, face_number
 ghost use Rattle.work.specs.Work.{worked};
 ghost use Rattle.words.specs.Tables.{table_of_words};
 ghost use Rattle.words.specs.Words.{first_word_count, joint_of_words};
+ghost use Rattle.words.specs.Results.{outcome_word_count};
 ghost use Rattle.exports.specs.Answers.{answer_number, answers};
 ghost use Rattle.exports.specs.Calls.{allocating, kind_of, reading_into, writing_into, built_in_into, loading_into, working_into};
-ghost use Rattle.exports.specs.Calls.{EnoughWords, WordsPut, Demand3OfWords, sheeting_into};
+ghost use Rattle.exports.specs.Calls.{WordsPut, Demand3OfWords, sheeting_into};
 
 use connection::SharedParts;
-use joint::is_two_faced;
 use jointfile::FileKind;
 use outcome::JointRefusal;
-use words::joints::{JOINT_WORDS, OneFaced};
+use words::joints::{JOINT_WORDS, JointWords, OneFaced};
 use words::results::{OUTCOME_WORDS, put_outcome};
-use words::tables::TABLE_WORDS;
+use words::tables::{TABLE_WORDS, TableWords};
 
 // The number of the old kind of file.
 const OLD_KIND: u32 = 1;
@@ -56,7 +56,7 @@ pub extern "C" fn jinqewan_allocate(count: usize, limits: &[u64], forces: &mut [
     }
 }
 
-// The kind of file that a number says.
+// The kind of file that a number says. Only C has the number, and a conversion would stand in jointfile.
 fn kind_of(number: u32) -> FileKind
     ensures { result ≡ kind_of number }
 {
@@ -96,10 +96,7 @@ pub extern "C" fn jinqewan_read(
 pub extern "C" fn jinqewan_rest(bytes: &[u8], kind: u32) -> usize
     ensures { result ≡ (reading (kind_of kind) bytes.now).next }
 {
-    match jointfile::read(bytes, kind_of(kind)) {
-        Ok(reading) => reading.next,
-        Err(_) => bytes.len(),
-    }
+    bytes.len() - jointfile::rest(bytes, kind_of(kind)).len()
 }
 
 // Write: the file goes to the buffer's front and its length to `length`.
@@ -108,10 +105,10 @@ pub extern "C" fn jinqewan_write(fields: &[u32], buffer: &mut [u8], length: &mut
     ensures { answers result (record { bytes = buffer.new; size = length.new })
         ≡ writing_into fields.now buffer.old length.old }
 {
-    if fields.len() < JOINT_WORDS {
+    let Some(fields) = JointWords::of(fields) else {
         return SHORT;
-    }
-    match jointfile::write(words::joints::joint_of(fields), buffer) {
+    };
+    match jointfile::write(fields.joint(), buffer) {
         Ok(size) => {
             *length = size;
             0
@@ -137,13 +134,15 @@ pub extern "C" fn jinqewan_built_in(table: &mut [u32]) -> u32
 pub extern "C" fn jinqewan_load(table: &[u32], in_force: &mut [u32]) -> u32
     ensures { answers result in_force.new ≡ loading_into table.now in_force.old }
 {
-    if table.len() < TABLE_WORDS || in_force.len() < TABLE_WORDS {
+    let Some(table) = TableWords::of(table) else {
+        return SHORT;
+    };
+    if in_force.len() < TABLE_WORDS {
         return SHORT;
     }
-    let mut held = words::tables::table_of(in_force);
-    match bolttable::load(&mut held, &words::tables::table_of(table)) {
+    match table.lent().check() {
         Ok(()) => {
-            words::tables::put_table(&held, in_force);
+            table.put(in_force);
             0
         }
         Err(not_taken) => not_taken.number(),
@@ -161,14 +160,16 @@ fn answer_of(refused: JointRefusal) -> u32
 
 // Works a joint's words with a table's, and puts the words of what they come to. Of a joint with one face nothing of a second is made: that
 // would take a sixth of the time of one bolt row.
-fn work_words(table: &[u32], fields: &[u32], res: &mut [u64]) -> Result<(), JointRefusal>
-    requires { EnoughWords table.now fields.now res.old }
-    ensures equals { WordsPut result (worked (table_of_words table.now) (joint_of_words fields.now)) res.old res.new }
-    ensures demand { OnOk result (Demand3OfWords (table_of_words table.now) (joint_of_words fields.now) res.new) }
+fn work_words(table: TableWords, fields: JointWords, res: &mut [u64]) -> Result<(), JointRefusal>
+    requires { outcome_word_count ≤ length res.old }
+    ensures equals { WordsPut result
+        (worked (table_of_words table.entry.words.now) (joint_of_words fields.entry.words.now)) res.old res.new }
+    ensures demand { OnOk result
+        (Demand3OfWords (table_of_words table.entry.words.now) (joint_of_words fields.entry.words.now) res.new) }
 {
-    if is_two_faced(fields[0]) {
-        let joint = words::joints::joint_of(fields);
-        let area = words::tables::area_of(table, joint.bolts.diameter);
+    if fields.is_two_faced() {
+        let joint = fields.joint();
+        let area = table.lent().area_of(joint.bolts.diameter);
         let worked = work::work_with(area, joint)?;
         put_outcome(&worked.result, &worked.second, res);
         return Ok(());
@@ -177,8 +178,8 @@ fn work_words(table: &[u32], fields: &[u32], res: &mut [u64]) -> Result<(), Join
         column,
         bolts,
         face,
-    } = words::joints::one_faced_of(fields);
-    let area = words::tables::area_of(table, bolts.diameter);
+    } = fields.one_faced();
+    let area = table.lent().area_of(bolts.diameter);
     let shared = SharedParts {
         column,
         bolts,
@@ -197,7 +198,10 @@ pub extern "C" fn jinqewan_work(table: &[u32], fields: &[u32], res: &mut [u64]) 
     ensures demand { result ≡ 0
         → Demand3OfWords (table_of_words table.now) (joint_of_words fields.now) res.new }
 {
-    if table.len() < TABLE_WORDS || fields.len() < JOINT_WORDS || res.len() < OUTCOME_WORDS {
+    let (Some(table), Some(fields)) = (TableWords::of(table), JointWords::of(fields)) else {
+        return SHORT;
+    };
+    if res.len() < OUTCOME_WORDS {
         return SHORT;
     }
     match work_words(table, fields, res) {

@@ -4,7 +4,7 @@ use crate::compare::{Difference, compare, compare_bytes};
 use crate::joints::{SHORT_JOINT, joint_words};
 use crate::reader::{Items, in_long_form, put_numbers};
 use jointfile::FileKind;
-use words::joints::{JOINT_WORDS, joint_of, put_joint};
+use words::joints::{JOINT_WORDS, JointWords, put_joint};
 
 // The numbers that read answers.
 const READ_NUMBERS: usize = JOINT_WORDS + 2;
@@ -43,7 +43,7 @@ pub fn run_read(items: &mut Items, kind: FileKind) -> Result<(), Difference> {
 
 // The refusal and the length of writing a joint to a buffer.
 fn written_numbers(joint: [u32; JOINT_WORDS], buffer: &mut [u8]) -> [u64; 2] {
-    match jointfile::write(joint_of(&joint), buffer) {
+    match jointfile::write(JointWords { words: &joint }.joint(), buffer) {
         Ok(length) => [0, length as u64],
         Err(refusal) => [u64::from(refusal.number()), 0],
     }

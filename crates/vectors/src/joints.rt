@@ -3,7 +3,7 @@
 use crate::compare::{Difference, compare};
 use crate::reader::{Items, in_long_form, put_words};
 use bolttable::BoltTable;
-use words::joints::{JOINT_WORDS, joint_of};
+use words::joints::{JOINT_WORDS, JointWords};
 use words::results::{FACE_WORDS, OUTCOME_WORDS, put_outcome};
 
 // The words of a joint in the short form, which has no second face.
@@ -27,7 +27,7 @@ pub fn joint_words(numbers: &[u64]) -> Result<[u32; JOINT_WORDS], Difference> {
 // What a joint's words come to with a bolt table in force.
 pub fn worked_numbers(table: &BoltTable, joint: [u32; JOINT_WORDS]) -> [u64; OUTCOME_NUMBERS] {
     let mut numbers = [0u64; OUTCOME_NUMBERS];
-    match work::work(table, joint_of(&joint)) {
+    match work::work(table, JointWords { words: &joint }.joint()) {
         Ok(worked) => put_outcome(&worked.result, &worked.second, &mut numbers[2..]),
         Err(refusal) => {
             numbers[0] = u64::from(refusal.number());

@@ -4,7 +4,7 @@ use crate::compare::{Difference, compare};
 use crate::joints;
 use crate::reader::{Items, put_numbers, put_words};
 use bolttable::BoltTable;
-use words::tables::{TABLE_WORDS, put_table, table_of};
+use words::tables::{TABLE_WORDS, TableWords, put_table};
 
 // The numbers that loading answers.
 const LOAD_NUMBERS: usize = TABLE_WORDS + 1;
@@ -29,7 +29,7 @@ fn table_from(numbers: &[u64]) -> Result<BoltTable, Difference> {
     }
     let mut words = [0u32; TABLE_WORDS];
     put_words(numbers, &mut words)?;
-    Ok(table_of(&words))
+    Ok(TableWords { words: &words }.table())
 }
 
 pub fn run_load(items: &mut Items) -> Result<(), Difference> {

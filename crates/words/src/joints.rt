@@ -1,7 +1,8 @@
 // A joint as words, and back. Field k of the first face stands at place k - 1, and its levers follow; then come the fields that a second
 // face has of its own, and its levers.
-ghost use Rattle.std.specs.Prelude.{◌≡◌, ◌≤◌, length};
+ghost use Rattle.std.specs.Prelude.{◌≡◌, ◌≤◌, ◌<◌, length, MatchOption};
 ghost use Rattle.buffers.specs.Put.{at_front};
+ghost use Rattle.joint.specs.Faces.{two_faced};
 ghost use Rattle.fields.specs.Fields.{stored_axial};
 ghost use Rattle.words.specs.Words.{joint_word_count, axial_of_word};
 ghost use Rattle.words.specs.Words.{first_fields_of_words, own_fields_of_words, joint_of_words, head_of, words_of};
@@ -29,39 +30,6 @@ fn stored_of(word: u32) -> u32
     fields::stored_axial(word.cast_signed())
 }
 
-// Fields 1 to 30 as the file stores them, from a joint's words.
-fn first_fields_of(words: &[u32]) -> [u32; FIELD_COUNT]
-    requires { joint_word_count ≤ length words.now }
-    ensures { result ≡ first_fields_of_words words.now }
-{
-    let mut fields: [u32; FIELD_COUNT] = words[..FIELD_COUNT].try_into().unwrap();
-    fields[AXIAL] = stored_of(fields[AXIAL]);
-    fields
-}
-
-// Those that a second face has of its own.
-fn own_fields_of(words: &[u32]) -> [u32; OWN_COUNT]
-    requires { joint_word_count ≤ length words.now }
-    ensures { result ≡ own_fields_of_words words.now }
-{
-    let mut own: [u32; OWN_COUNT] = words[FIRST_WORDS..OTHER_LEVERS].try_into().unwrap();
-    own[OWN_AXIAL] = stored_of(own[OWN_AXIAL]);
-    own
-}
-
-// The joint of its words.
-pub fn joint_of(words: &[u32]) -> Joint
-    requires { joint_word_count ≤ length words.now }
-    ensures { result ≡ joint_of_words words.now }
-{
-    fields::joint_of(
-        first_fields_of(words),
-        words[FIELD_COUNT..FIRST_WORDS].try_into().unwrap(),
-        own_fields_of(words),
-        words[OTHER_LEVERS..JOINT_WORDS].try_into().unwrap(),
-    )
-}
-
 // A joint without its second face.
 #[derive(Clone, Copy)]
 pub struct OneFaced {
@@ -70,17 +38,73 @@ pub struct OneFaced {
     pub face: Face,
 }
 
-// What a joint's words have without a second face: of those nothing is read.
-pub fn one_faced_of(words: &[u32]) -> OneFaced
-    requires { joint_word_count ≤ length words.now }
-    ensures { let joint = joint_of_words words.now in
-        (result.column ≡ joint.column) × (result.bolts ≡ joint.bolts) × (result.face ≡ joint.face) }
-{
-    let fields = first_fields_of(words);
-    OneFaced {
-        column: fields::column_of(&fields),
-        bolts: fields::bolts_of(&fields),
-        face: fields::first_face_of(&fields, words[FIELD_COUNT..FIRST_WORDS].try_into().unwrap()),
+// The words of a joint, and maybe more after them.
+#[derive(Clone, Copy)]
+pub struct JointWords<'a> {
+    pub words: &'a [u32],
+    ghost enough: { joint_word_count ≤ length words.now },
+}
+
+impl<'a> JointWords<'a> {
+    // Where there are as many words as a joint has.
+    pub fn of(words: &'a [u32]) -> Option<JointWords<'a>>
+        ensures { MatchOption result (length words.now < joint_word_count) (λ joint. joint.words.now ≡ words.now) }
+    {
+        if words.len() < JOINT_WORDS {
+            return None;
+        }
+        Some(JointWords { words })
+    }
+
+    pub fn joint(self) -> Joint
+        ensures { result ≡ joint_of_words self.entry.words.now }
+    {
+        let words = self.words;
+        fields::joint_of(
+            self.first_fields(),
+            words[FIELD_COUNT..FIRST_WORDS].try_into().unwrap(),
+            self.own_fields(),
+            words[OTHER_LEVERS..JOINT_WORDS].try_into().unwrap(),
+        )
+    }
+
+    // Field 1 says it.
+    pub fn is_two_faced(self) -> bool
+        ensures { result ≡ two_faced (joint_of_words self.entry.words.now).face.rows }
+    {
+        joint::is_two_faced(self.words[0])
+    }
+
+    // The joint without a second face: of its words nothing is read.
+    pub fn one_faced(self) -> OneFaced
+        ensures { let joint = joint_of_words self.entry.words.now in
+            (result.column ≡ joint.column) × (result.bolts ≡ joint.bolts) × (result.face ≡ joint.face) }
+    {
+        let fields = self.first_fields();
+        let words = self.words;
+        OneFaced {
+            column: fields::column_of(&fields),
+            bolts: fields::bolts_of(&fields),
+            face: fields::first_face_of(&fields, words[FIELD_COUNT..FIRST_WORDS].try_into().unwrap()),
+        }
+    }
+
+    // Fields 1 to 30 as the file stores them.
+    fn first_fields(self) -> [u32; FIELD_COUNT]
+        ensures { result ≡ first_fields_of_words self.entry.words.now }
+    {
+        let mut fields: [u32; FIELD_COUNT] = self.words[..FIELD_COUNT].try_into().unwrap();
+        fields[AXIAL] = stored_of(fields[AXIAL]);
+        fields
+    }
+
+    // Those that a second face has of its own.
+    fn own_fields(self) -> [u32; OWN_COUNT]
+        ensures { result ≡ own_fields_of_words self.entry.words.now }
+    {
+        let mut own: [u32; OWN_COUNT] = self.words[FIRST_WORDS..OTHER_LEVERS].try_into().unwrap();
+        own[OWN_AXIAL] = stored_of(own[OWN_AXIAL]);
+        own
     }
 }
 

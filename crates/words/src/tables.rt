@@ -1,6 +1,6 @@
 // A bolt table as words, and back: its count, its twelve diameters and its twelve areas.
-ghost use Rattle.std.specs.Prelude.{◌≡◌, ◌≤◌, length};
-ghost use Rattle.bolttable.specs.Area.{area_of};
+ghost use Rattle.std.specs.Prelude.{◌≡◌, ◌≤◌, ◌<◌, length, MatchOption};
+ghost use Rattle.bolttable.specs.Lent.{table_of};
 ghost use Rattle.buffers.specs.Put.{at_front};
 ghost use Rattle.words.specs.Tables.{table_word_count, table_of_words, words_of_table};
 
@@ -11,30 +11,54 @@ pub const TABLE_WORDS: usize = AREAS + PLACES;
 
 const AREAS: usize = 1 + PLACES;
 
-// The table of its words.
-pub fn table_of(words: &[u32]) -> BoltTable
-    requires { table_word_count ≤ length words.now }
-    ensures { result ≡ table_of_words words.now }
-{
-    BoltTable {
-        count: words[0],
-        diameters: words[1..AREAS].try_into().unwrap(),
-        areas: words[AREAS..TABLE_WORDS].try_into().unwrap(),
-    }
+// The words of a table, and maybe more after them.
+#[derive(Clone, Copy)]
+pub struct TableWords<'a> {
+    pub words: &'a [u32],
+    ghost enough: { table_word_count ≤ length words.now },
 }
 
-// The area that the table of words lists for a diameter. Nothing is copied for it.
-pub fn area_of(words: &[u32], diameter: u32) -> Option<u32>
-    requires { table_word_count ≤ length words.now }
-    ensures { result ≡ area_of (table_of_words words.now) diameter }
-{
-    let count = words[0];
-    LentTable {
-        count,
-        diameters: &words[1..AREAS],
-        areas: &words[AREAS..TABLE_WORDS],
+impl<'a> TableWords<'a> {
+    // Where there are as many words as a table has.
+    pub fn of(words: &'a [u32]) -> Option<TableWords<'a>>
+        ensures { MatchOption result (length words.now < table_word_count) (λ table. table.words.now ≡ words.now) }
+    {
+        if words.len() < TABLE_WORDS {
+            return None;
+        }
+        Some(TableWords { words })
     }
-    .area_of(diameter)
+
+    pub fn table(self) -> BoltTable
+        ensures { result ≡ table_of_words self.entry.words.now }
+    {
+        BoltTable {
+            count: self.words[0],
+            diameters: self.words[1..AREAS].try_into().unwrap(),
+            areas: self.words[AREAS..TABLE_WORDS].try_into().unwrap(),
+        }
+    }
+
+    // The table with its places lent: nothing is copied.
+    #[tactic(auto, unfolding(crate::specs::Tables::table_of_words))]
+    pub fn lent(self) -> LentTable<'a>
+        ensures { table_of result ≡ table_of_words self.entry.words.now }
+    {
+        let count = self.words[0];
+        LentTable {
+            count,
+            diameters: &self.words[1..AREAS],
+            areas: &self.words[AREAS..TABLE_WORDS],
+        }
+    }
+
+    // Copies the words of the table to the front of a slice.
+    pub fn put(self, words: &mut [u32])
+        requires { table_word_count ≤ length words.old }
+        ensures { words.new ≡ at_front (words_of_table (table_of_words self.entry.words.now)) words.old }
+    {
+        words[..TABLE_WORDS].copy_from_slice(&self.words[..TABLE_WORDS]);
+    }
 }
 
 // Puts a table's words at the front of a slice.

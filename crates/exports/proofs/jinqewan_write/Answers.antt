@@ -12,19 +12,20 @@ use Rattle.exports.proofs.Answers.{too_short, taken, refused}
 use Rattle.exports.proofs.Calls.{write_kept}
 use Rattle.exports.proofs.jinqewan_write.Goals as goal
 
-pub returns-then-fields-lt-JOINT_WORDS : goal.returns-then-fields-lt-JOINT_WORDS
-returns-then-fields-lt-JOINT_WORDS c = too_short _ _ _ _ _ (lt-leb joint_word_count _ c.if-fields-lt-JOINT_WORDS.true)
+pub returns-in_default : goal.returns-in_default
+returns-in_default c = too_short _ _ _ _ _ (lt-leb joint_word_count _ c.in_default.ensures)
 
 pub returns-in-Ok : goal.returns-in-Ok
 returns-in-Ok c =
-    let written = c.in-Ok.ensures ∙ ap (λ (joint : Joint). writing joint c.args.buffer.now) c.joint_of.ensures in
-    taken _ 0 0 _ _ (le-leb joint_word_count _ c.if-fields-lt-JOINT_WORDS.false) (sym (ap (λ (w : Writing). w.refusal) written))
-    (ap file_put written)
+    let written = c.in-Ok.ensures ∙ ap (λ (joint : Joint). writing joint c.args.buffer.now) c.joint.ensures in
+    rw (← c.in-Some.ensures)
+    (taken _ 0 0 _ _ (le-leb joint_word_count _ c.in-Some.fields.enough) (sym (ap (λ (w : Writing). w.refusal) written)) (ap file_put written))
 
 pub returns-in-Err : goal.returns-in-Err
 returns-in-Err c =
-    let written = c.in-Err.ensures ∙ ap (λ (joint : Joint). writing joint c.args.buffer.now) c.joint_of.ensures in
+    let written = c.in-Err.ensures ∙ ap (λ (joint : Joint). writing joint c.args.buffer.now) c.joint.ensures in
     let kept = write_kept _ _ _ _ (write_some c.in-Err.unwritten) written in
-    ap (λ (bytes : List ℕ). let front : BufferFront = record { bytes = bytes; size = c.args.length.now } in answers c.number.result front) kept
-    ∙ refused _ _ _ (le-leb joint_word_count _ c.if-fields-lt-JOINT_WORDS.false) c.number.ensures (ap (λ (w : Writing). w.refusal) written)
-    (write_some c.in-Err.unwritten)
+    rw (← c.in-Some.ensures)
+    (ap (λ (bytes : List ℕ). let front : BufferFront = record { bytes = bytes; size = c.args.length.now } in answers c.number.result front) kept
+    ∙ refused _ _ _ (le-leb joint_word_count _ c.in-Some.fields.enough) c.number.ensures (ap (λ (w : Writing). w.refusal) written)
+    (write_some c.in-Err.unwritten))

@@ -1,7 +1,7 @@
--- `joints::own_fields_of` meets its contract. Assumes nothing.
+-- `JointWords::own_fields` meets its contract. Assumes nothing.
 use Rattle.words.specs.Words.{fields_of_words}
 use Rattle.words.proofs.Copies.{part_is}
-use Rattle.words.proofs.joints.own_fields_of.Goals as goal
+use Rattle.words.proofs.joints.JointWords.own_fields.Goals as goal
 
 pub returns : goal.returns
 unfolding fields_of_words

@@ -1,7 +1,7 @@
--- `tables::table_of` meets its contract: it is the definition, part by part. Assumes nothing.
+-- `TableWords::table` meets its contract: it is the definition, part by part. Assumes nothing.
 use Rattle.words.specs.Tables.{table_of_words}
 use Rattle.words.proofs.Copies.{part_is}
-use Rattle.words.proofs.tables.table_of.Goals as goal
+use Rattle.words.proofs.tables.TableWords.table.Goals as goal
 
 pub returns : goal.returns
 unfolding table_of_words
