@@ -35,7 +35,7 @@ pub group_count_le : (n : ℕ) → n ≤ 8 → group_count n ≤ 36
 unfolding group_count
 group_count_le n h = omega (arith, mul-le-mul {n₁ = n} {m₁ = n + 1} {n₂ = 8} {m₂ = 9} h (omega arith))
 
-groups_grow : (n i d : ℕ) → groups_above n i ≤ groups_above n (i + d)
+pub groups_grow : (n i d : ℕ) → groups_above n i ≤ groups_above n (i + d)
 unfolding groups_above
 groups_grow n i zero = rw (add-zero i) (omega arith)
 groups_grow n i (suc d) = let shorter = groups_grow n i d in rw (add-suc i d) (omega arith)

@@ -7,7 +7,8 @@ use native.Mathlib.Nat.{le_refl, le_trans, le-suc_iff, min-le_left}
 use mathlib.Core.Logic.{⊎_elim}
 use native.Mathlib.Omega.{arith}
 use lib.Dec.{eqb}
-use lib.ListN.{get_or}
+use lib.ListN.{length, get_or, take}
+use lib.Seq.{get_or-take}
 use Rattle.arithmetic.specs.Range.{Within, ◌to◌}
 use Rattle.arithmetic.proofs.Bounds.{exactly, ◌⊗◌, ◌⊘◌, loosen}
 use Rattle.joint.specs.Ranges.{edges}
@@ -36,8 +37,15 @@ pub record Sizes (spacing : Spacing) (steel : SteelStrengths) : Type 0 where
 
 module _ (column : Column) (face : Face) (a : Admissible column face) where
   -- no lever is above one over it, however far down
-  pub levers_of : Levers face.rows face.levers
-  levers_of = record { rows = a.face.rows.high; fall = fall; high = λ i h. lever_most face a.face i }
+  pub levers_of : length (take face.rows face.levers) ≡ face.rows → Levers (take face.rows face.levers)
+  levers_of long =
+      let own = λ (k : ℕ) (h : k < face.rows). get_or-take face.rows face.levers k 0 h in
+      record {
+        rows = omega (arith, long, a.face.rows.high);
+        fall = λ i j h inside.
+            omega (arith, own i (omega (arith, long)), own j (omega (arith, long)), fall i j h (omega (arith, long)));
+        high = λ i h. omega (arith, own i (omega (arith, long)), lever_most face a.face i);
+      }
     where
       fall : (i j : ℕ) → i ≤ j → j < face.rows → get_or face.levers j 0 ≤ get_or face.levers i 0
       fall i zero h inside = let top : i ≡ 0 = omega arith in rw top (le_refl _)

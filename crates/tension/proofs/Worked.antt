@@ -2,16 +2,19 @@
 -- limits that apply are counted in the order of the rules. Assumes nothing.
 use mathlib.Core.Path.{◌≡◌, refl, ap, ◌∙◌}
 use mathlib.Core.Bool.{Bool, true, false, cond}
-use Prim.Native.Nat.{ℕ, ◌*◌, ◌/◌, ◌≤◌, min}
-use native.Mathlib.Nat.{mul-le-mul, le_trans, le_refl, min-le_left, min-le_right}
+use Prim.Native.Nat.{ℕ, suc, ◌+◌, ◌-◌, ◌*◌, ◌/◌, ◌≤◌, ◌<◌, min}
+use native.Mathlib.Nat.{add-zero, mul-le-mul, le_trans, le_refl, min-le_left, min-le_right}
 use native.Mathlib.Omega.{arith}
-use mathlib.Core.List.{[], ◌∷◌, ◌++◌}
-use lib.Dec.{ltb, eqb}
+use mathlib.Core.List.{List, [], ◌∷◌, ◌++◌}
+use lib.ListN.{get_or, drop}
+use Rattle.std.proofs.lemmas.List.{get_or-drop}
+use lib.Dec.{ltb, eqb, lit≤}
 use borrow.Author.Tests.{ltb-true, ne_eqb}
 use Rattle.arithmetic.proofs.Bounds.{cond_le}
 use Rattle.joint.specs.Ranges.{row_counts}
 use Rattle.joint.specs.declared.Column.{Column}
 use Rattle.joint.specs.declared.Face.{Face}
+use Rattle.sharing.specs.Groups.{most_limit}
 use Rattle.strength.specs.Steel.{steel_strength}
 use Rattle.strength.specs.declared.SteelStrengths.{SteelStrengths}
 use Rattle.spacing.specs.Spacing.{rise}
@@ -126,5 +129,16 @@ module _ (d : Dimensions) (i k s : ℕ) where
   unfolding limit_by column_by bending_by
   limit_le = le_trans (webs_le _) (le_trans (plate_le _) (min-le_right _ _))
 
-  pub limit_small : DimensionsWithin d → k ≤ row_counts.high → limit_by d i k s ≤ most_group_limit
+  limit_small : DimensionsWithin d → k ≤ row_counts.high → limit_by d i k s ≤ most_group_limit
   limit_small w few = le_trans limit_le (mul-le-mul few w.pair.high)
+
+-- A group's limit by the levers from its row on, and that Allocate takes it.
+module _ (d : Dimensions) (levers : List ℕ) (row k : ℕ) where
+  pub own_limit : limit_by d row (k + 1) (get_or (drop row levers) 0 0 - get_or (drop row levers) k 0) ≡ limits_by d levers row (row + k)
+  own_limit =
+      let rows : k + 1 ≡ suc (row + k) - row = omega arith in
+      let first : get_or (drop row levers) 0 0 ≡ get_or levers row 0 = get_or-drop row levers 0 0 ∙ ap (λ p. get_or levers p 0) (add-zero row) in
+      λ i. limit_by d row (rows i) (first i - get_or-drop row levers k 0 i)
+
+  pub own_limit_small : DimensionsWithin d → row + k < row_counts.high → limits_by d levers row (row + k) ≤ most_limit
+  own_limit_small w few = le_trans (limit_small d row _ _ w (omega (arith, few))) (lit≤ tt)

@@ -1,6 +1,6 @@
 -- What the limits of one face rely on, which Work establishes, and what they come to: a table in Allocate's order.
 -- Assumes nothing.
-use Rattle.std.specs.Prelude.{◌≡◌, ℕ, suc, ◌≤◌, ◌<◌, List, length, get_or}
+use Rattle.std.specs.Prelude.{◌≡◌, ℕ, suc, ◌+◌, ◌-◌, ◌≤◌, ◌<◌, List, length, get_or}
 use Rattle.arithmetic.specs.Range.{Within, ◌to◌}
 use Rattle.joint.specs.Ranges.{row_counts, most_lever}
 use Rattle.joint.specs.InRange.{ColumnInRange, FaceInRange}
@@ -55,28 +55,29 @@ pub record ExtensionFigures (f : Face) (mx e yp W : ℕ) : Type 0 where
   pub pair : Within (0 to most_pair_tension) W
 
 -- Levers of at most eight rows, none below one under it.
-pub record Levers (n : ℕ) (levers : List ℕ) : Type 0 where
-  pub rows : n ≤ row_counts.high
-  pub fall : (i j : ℕ) → i ≤ j → j < n → get_or levers j 0 ≤ get_or levers i 0
-  pub high : (i : ℕ) → i < n → get_or levers i 0 ≤ most_lever
+pub record Levers (levers : List ℕ) : Type 0 where
+  pub rows : length levers ≤ row_counts.high
+  pub fall : (i j : ℕ) → i ≤ j → j < length levers → get_or levers j 0 ≤ get_or levers i 0
+  pub high : (i : ℕ) → i < length levers → get_or levers i 0 ≤ most_lever
 
--- All that filling it asks once the dimensions are worked.
-pub record FillAsked (d : Dimensions) (n : ℕ) (h : List ℕ) : Type 0 where
+-- What the limits of the groups that begin at a row ask: that row's lever and those below it, and as many places.
+pub record RowAsked (d : Dimensions) (h limits : List ℕ) : Type 0 where
   pub dimensions : DimensionsWithin d
-  pub levers : Levers n h
+  pub levers : Levers h
+  pub places : length limits ≡ length h
 
--- And for the groups that begin at one row: where their limits stand.
-pub record RowAsked (d : Dimensions) (n : ℕ) (h : List ℕ) (row first : ℕ) : Type 0 where
-  pub all : FillAsked d n h
-  pub inside : row < n
-  pub place : first ≡ groups_above n row
+-- And those of the groups that begin at a row or below: the levers of all rows, and a place for each such group.
+pub record FillAsked (d : Dimensions) (h : List ℕ) (row : ℕ) (table : List ℕ) : Type 0 where
+  pub dimensions : DimensionsWithin d
+  pub levers : Levers h
+  pub inside : row ≤ length h
+  pub places : group_count (length h) ≤ groups_above (length h) row + length table
 
--- How a lent table stands when the limits up to a place are there: no other place has changed.
-pub record FilledTo (n : ℕ) (limit : Table) (entry : List ℕ) (next : ℕ) (table : List ℕ) : Type 0 where
-  pub size : length table ≡ table_places
-  pub agrees : (i j : ℕ) → i ≤ j → j < n → place_of n i j < next → get_or table (place_of n i j) 0 ≡ limit i j
-  pub bounded : (k : ℕ) → k < next → get_or table k 0 ≤ most_limit
-  pub untouched : (k : ℕ) → next ≤ k → get_or table k 0 ≡ get_or entry k 0
+-- How a lent table stands when those limits are at its front: no place after them has changed.
+pub record FilledFrom (n : ℕ) (limit : Table) (row : ℕ) (entry exit : List ℕ) : Type 0 where
+  pub agrees : (i j : ℕ) → row ≤ i → i ≤ j → j < n → get_or exit (place_of n i j - groups_above n row) 0 ≡ limit i j
+  pub bounded : (k : ℕ) → groups_above n row + k < group_count n → get_or exit k 0 ≤ most_limit
+  pub untouched : (k : ℕ) → group_count n ≤ groups_above n row + k → get_or exit k 0 ≡ get_or entry k 0
 
 -- What stands in a lent table once every group of n rows has its limit there, in Allocate's order.
 pub record TableFilled (n : ℕ) (limit : Table) (entry exit : List ℕ) : Type 0 where

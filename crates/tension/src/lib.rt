@@ -2,12 +2,12 @@
 // Lengths are in hundredths of a millimetre. Work calls these for joints that refusals 10, 11 and 13 let pass.
 #![tactic(auto)]
 
-ghost use Rattle.std.specs.Prelude.{◌≡◌, ℕ, ◌+◌, ◌-◌, List, cond, eqb};
+ghost use Rattle.std.specs.Prelude.{◌≡◌, ℕ, ◌+◌, ◌-◌, ◌<◌, length, get_or, cond, eqb};
 ghost use Rattle.arithmetic.specs.Range.{Within};
 ghost use Rattle.stubs.specs.InRange.{rises};
 ghost use Rattle.tension.specs.Limits.{extension_bending, group_limit};
 ghost use Rattle.tension.specs.Admissible.{Admissible, FiguresGiven, LimitsAsked, ExtensionFigures};
-ghost use Rattle.tension.specs.Admissible.{FillAsked, RowAsked, FilledTo, TableFilled};
+ghost use Rattle.tension.specs.Admissible.{FillAsked, RowAsked, FilledFrom, TableFilled};
 ghost use Rattle.tension.specs.Dimensions.{column_by, plate_side_by, plate_by, webs_by, limit_by, limits_by, dimensions_of};
 ghost use Rattle.tension.specs.InRange.{DimensionsWithin, GroupInRange};
 
@@ -72,41 +72,32 @@ impl Dimensions {
         }
     }
 
-    // Every group's limit, row by row.
-    fn fill_limits(&self, rows: usize, levers: &[u32; 8], table: &mut [u64; 36])
-        requires { FillAsked self.now rows levers.now }
-        ensures { TableFilled rows (limits_by self.now levers.now) table.old table.new }
+    // The limits of the groups that begin at a row or below, row by row, at the front of a part of a table.
+    fn fill_limits(&self, row: usize, levers: &[u32], table: &mut [u64])
+        requires { FillAsked self.now levers.now row table.old }
+        ensures { FilledFrom (length levers.now) (limits_by self.now levers.now) row table.old table.new }
     {
-        let mut first = 0;
-        for row in 0..rows {
-            self.fill_row(rows, levers, row, first, table);
-            first += rows - row;
+        if row < levers.len() {
+            let (own, further) = table.split_at_mut(levers.len() - row);
+            self.fill_row(row, &levers[row..], own);
+            self.fill_limits(row + 1, levers, further);
         }
     }
 
-    // The limits of the groups that begin at a row, from the shortest to the longest. They have their places from `first` on. By
-    // index: a turn asks for the lever, the count of rows and the place by it.
-    fn fill_row(
-        &self,
-        rows: usize,
-        levers: &[u32; 8],
-        row: usize,
-        first: usize,
-        table: &mut [u64; 36],
-    )
-        requires { RowAsked self.now rows levers.now row first }
-        ensures { (entry : List ℕ)
-            → FilledTo rows (limits_by self.now levers.now) entry first table.old
-            → FilledTo rows (limits_by self.now levers.now) entry (first + (rows - row)) table.new }
+    // The limits of the groups that begin at a row, from the shortest to the longest, by its lever and those below it.
+    fn fill_row(&self, row: usize, levers: &[u32], limits: &mut [u64])
+        requires { RowAsked self.now levers.now limits.old }
+        ensures { (k : ℕ) → k < length levers.now
+            → get_or limits.new k 0 ≡ limit_by self.now row (k + 1) (get_or levers.now 0 0 - get_or levers.now k 0) }
     {
-        for last in row..rows {
+        for (last, limit) in limits.iter_mut().enumerate() {
             let group = Group {
                 dimensions: self,
                 row,
-                rows: (last - row) as u64 + 1,
-                rise: u64::from(levers[row] - levers[last]),
+                rows: last as u64 + 1,
+                rise: u64::from(levers[0] - levers[last]),
             };
-            table[first + (last - row)] = group.limit();
+            *limit = group.limit();
         }
     }
 }
@@ -197,7 +188,7 @@ pub fn group_limits(
     ensures { TableFilled face.now.rows (group_limit column.now face.now pair) table.old table.new }
 {
     let d = Dimensions::new(column, face, spacing, steel, pair);
-    d.fill_limits(face.rows as usize, &face.levers, table);
+    d.fill_limits(0, &face.levers[..face.rows as usize], table);
 }
 
 // The plate limit of the extension row alone, 0 if flush: from mx, the plate's e and its strength.
