@@ -20,7 +20,7 @@ pub const OWN_COUNT: usize = 20;
 fn axial_of(x: u32) -> i32
     ensures { result ≡ axial_of x }
 {
-    let half = (x / 2) as i32;
+    let half = (x / 2).cast_signed();
     if x % 2 == 0 { half } else { -1 - half }
 }
 
@@ -66,12 +66,12 @@ pub fn bolts_of(fields: &[u32]) -> Bolts
 }
 
 // A face's part of the file: its numbers, fields 1 and 2 first, and among them the places of field 6, with 7 after it, and of field 14,
-// with 15 to 29 after it.
+// with 15 to 29 after it. It has places, and not a part for each run of fields, since the rule's definition goes by them too.
 #[derive(Clone, Copy)]
-struct FacePart<'a> {
-    numbers: &'a [u32],
-    sixth: usize,
-    fourteenth: usize,
+pub struct FacePart<'a> {
+    pub numbers: &'a [u32],
+    pub sixth: usize,
+    pub fourteenth: usize,
     ghost within: { PlacesWithin numbers.now sixth fourteenth },
 }
 
@@ -129,7 +129,8 @@ impl FacePart<'_> {
         }
     }
 
-    fn face(&self, levers: [u32; 8]) -> Face
+    // The face that the part tells, with its levers.
+    pub fn face(&self, levers: [u32; 8]) -> Face
         ensures { result ≡ face_of self.now.numbers.now self.now.sixth self.now.fourteenth levers }
     {
         Face {
@@ -147,7 +148,8 @@ impl FacePart<'_> {
 }
 
 // The first face among fields 1 to 30, with its levers.
-pub fn first_face_of(fields: &[u32; FIELD_COUNT], levers: [u32; 8]) -> Face
+pub fn first_face_of(fields: &[u32], levers: [u32; 8]) -> Face
+    requires { field_count ≤ length fields.now }
     ensures { result ≡ first_face_of fields.now levers }
 {
     FacePart {

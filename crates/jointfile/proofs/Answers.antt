@@ -9,26 +9,26 @@ use native.Mathlib.Nat.{sub-zero, zero-sub}
 use borrow.Rule.Slice.PartMut.{put_mid}
 use lib.ListN.{length, take, drop, set, replicate, length-drop}
 use lib.Seq.{take-length, drop-length}
-use Rattle.std.specs.Prelude.{Result, Ok, Err}
+use Rattle.std.specs.Prelude.{Result, Ok, Err, IsErrAnd}
 use Rattle.arithmetic.specs.Range.{Within, within, ◌to◌}
 use Rattle.arithmetic.proofs.Checks.{holds, fails}
 use Rattle.joint.specs.Ranges.{row_counts}
 use Rattle.joint.specs.Faces.{two_faced}
 use Rattle.joint.specs.Places.{eight_places}
 use Rattle.joint.specs.declared.Joint.{Joint}
-use Rattle.numbers.specs.Parse.{got, refused}
+use Rattle.numbers.specs.Parse.{Parse, got, refused}
 use Rattle.numbers.specs.Answers.{number_of, NumberRead, RunRead}
 use Rattle.numbers.specs.declared.number.Number.{Number}
 use Rattle.numbers.specs.declared.number.NumberRefusal.{NumberRefusal}
 use Rattle.fields.specs.Fields.{field_count, field, joint_of}
-use Rattle.jointfile.specs.File.{untold_end_distance, lacking, stored_field_count, other_field_count, no_part, rows_by}
+use Rattle.jointfile.specs.File.{Part, untold_end_distance, lacking, stored_field_count, other_field_count, no_part, rows_by}
 use Rattle.jointfile.specs.File.{read_others, read_part, read_second, read_joint, answer}
 use Rattle.jointfile.specs.Write.{file, turned_down, rows_check, spare_check, writing}
-use Rattle.jointfile.specs.Answers.{read_refusal, part_meaning, OthersRead, PartRead, writing_if_room}
+use Rattle.jointfile.specs.Answers.{read_refusal, reading_meaning, part_meaning, OthersRead, PartRead, writing_if_room}
+use Rattle.jointfile.specs.declared.Reading.{Reading as ReadJoint}
 use Rattle.jointfile.specs.declared.FileKind.{FileKind}
 use Rattle.jointfile.specs.declared.FileKind.TheVariants.{Old, New}
 use Rattle.jointfile.specs.declared.ReadRefusal.{ReadRefusal}
-use Rattle.jointfile.specs.declared.ReadRefusal.TheVariants.{RowCount}
 
 -- ---- the levers in eight places
 
@@ -65,36 +65,34 @@ module _ {bytes entry others : List ℕ} {from rows : ℕ} where
 
 -- ---- a part
 
-module _ (bytes : List ℕ) (from : ℕ) (first : Bool) (entry : List ℕ) where
-  pub part_stopped : (fields levers : List ℕ) (r : NumberRefusal) (told : ReadRefusal) → NumberRead bytes from (Err r)
-      → read_refusal told ≡ number_of r → PartRead bytes from first entry fields levers (Err told)
+pub part_taken : {bytes : List ℕ} {count : Number} {rows : ℕ} {entry lent others levers : List ℕ} → within row_counts rows ≡ true
+    → length lent ≡ length entry - 1 → (next : ℕ) → OthersRead bytes count.next rows lent others levers (Ok next)
+    → PartRead bytes count rows entry (count.value ∷ others) levers (Ok next)
+part_taken {count = count} right long next read = record { means = rw right (rw long at (read.means count.value)); within = read.within }
+
+-- What reading a part from a place on gives: the place after it, or the refusal's number.
+pub record PartGives (bytes : List ℕ) (from : ℕ) (first : Bool) (entry : List ℕ) (parse : Parse Part) : Type 0 where
+  pub is : read_part first (length entry - 1) (drop from bytes) ≡ parse
+
+module _ {bytes : List ℕ} {from : ℕ} {first : Bool} {entry : List ℕ} where
+  -- the row count can't be read
+  pub count_stops : {r : NumberRefusal} → NumberRead bytes from (Err r) → PartGives bytes from first entry (refused (number_of r))
   unfolding read_part
-  part_stopped fields levers r told read same = record { means = rw (← read.means, same); within = omega arith }
+  count_stops read = record { is = rw (← read.means) }
 
-  module _ (count : Number) (read : NumberRead bytes from (Ok count)) (rows : ℕ) (by : rows ≡ rows_by first count.value) where
-    pub part_refused : (fields levers : List ℕ) → within row_counts rows ≡ false → PartRead bytes from first entry fields levers (Err RowCount)
-    unfolding read_part
-    part_refused fields levers e = record { means = rw (← read.means, rw by at e); within = omega arith }
+  -- it can
+  pub part_gives : {fields levers : List ℕ} {run : Result ℕ ReadRefusal} {count : Number} {rows : ℕ} → rows ≡ rows_by first count.value
+      → NumberRead bytes from (Ok count)
+      → PartRead bytes count rows entry fields levers run
+      → PartGives bytes from first entry (part_meaning read_refusal bytes fields levers run)
+  unfolding read_part
+  part_gives by read part = record { is = rw (← read.means) (sym (rw by at part.means)) }
 
-    module _ (lent others levers : List ℕ) (e : within row_counts rows ≡ true) (long : length lent ≡ length entry - 1) where
-      pub part_taken : (next : ℕ) → OthersRead bytes count.next rows lent others levers (Ok next)
-          → PartRead bytes from first entry (count.value ∷ others) levers (Ok next)
-      unfolding read_part
-      part_taken next read' =
-          record {
-            means = rw (← read.means, rw by at e) (rw (long, by) at (read'.means count.value));
-            within = read'.within read.within;
-          }
-
-      pub part_others_stopped : (fields : List ℕ) (r : NumberRefusal) (told : ReadRefusal)
-          → OthersRead bytes count.next rows lent others levers (Err r) → read_refusal told ≡ number_of r
-          → PartRead bytes from first entry fields levers (Err told)
-      unfolding read_part
-      part_others_stopped fields r told read' same =
-          record {
-            means = rw (← read.means, rw by at e, same) (rw (long, by) at (read'.means count.value));
-            within = omega arith;
-          }
+-- the refusal that a `?` hands on is told by its number
+pub refused_by : (end : ℕ) {r : ℕ} {parse : Parse Joint} {Told : ReadRefusal → Type 0} (told : Result ReadJoint ReadRefusal) → IsErrAnd told Told
+    → ((refusal : ReadRefusal) → Told refusal → read_refusal refusal ≡ r) → parse ≡ refused r → reading_meaning end told ≡ answer end parse
+refused_by end (Ok read) none number stops = absurd none
+refused_by end (Err refusal) told number stops = rw (stops, number refusal told)
 
 -- the places of a part's fields, of which the first has the count and the others are lent
 pub lent_others : (fields : List ℕ) (count : ℕ) → 1 ≤ length fields
@@ -119,16 +117,15 @@ module _ (fields levers : List ℕ) where
   unfolding read_second
   second_none bytes one = rw one
 
-  module _ (two : two_faced (field 1 fields) ≡ true) {bytes own others : List ℕ} {from : ℕ} where
-    pub second_stopped : (r : ReadRefusal) → PartRead bytes from false no_part.fields own others (Err r)
-        → read_second fields levers (drop from bytes) ≡ refused (read_refusal r)
+  module _ (two : two_faced (field 1 fields) ≡ true) {bytes : List ℕ} {from : ℕ} where
+    pub second_stopped : {r : ℕ} → PartGives bytes from false no_part.fields (refused r) → read_second fields levers (drop from bytes) ≡ refused r
     unfolding read_second
-    second_stopped r read = rw (two, ← read.means)
+    second_stopped gives = rw (two, gives.is)
 
-    pub second_taken : (next : ℕ) → PartRead bytes from false no_part.fields own others (Ok next)
-        → read_second fields levers (drop from bytes) ≡ got (joint_of fields levers own others) (drop next bytes)
+    pub second_taken : {second : Part} {left : List ℕ} → PartGives bytes from false no_part.fields (got second left)
+        → read_second fields levers (drop from bytes) ≡ got (joint_of fields levers second.fields second.levers) left
     unfolding read_second
-    second_taken next read = rw (two, ← read.means)
+    second_taken gives = rw (two, gives.is)
 
 -- the place after the joint, of the bytes left
 pub answer_got : (bytes : List ℕ) (joint : Joint) (next : ℕ) → next ≤ length bytes
@@ -155,20 +152,18 @@ kept_fields : (kind : FileKind) → drop (stored_field_count kind) unread ≡ la
 kept_fields Old = refl
 kept_fields New = refl
 
-module _ (kind : FileKind) {count : ℕ} (stored : count ≡ stored_field_count kind) {bytes fields levers : List ℕ} where
-  reads : {run : Result ℕ ReadRefusal} → PartRead bytes 0 true (take count unread) fields levers run
-      → part_meaning read_refusal bytes fields levers run ≡ read_part true (other_field_count kind) bytes
-  reads read = rw (stored, lent_fields kind) at read.means
+module _ (kind : FileKind) {count : ℕ} (stored : count ≡ stored_field_count kind) {bytes : List ℕ} where
+  gives_first : {parse : Parse Part} → PartGives bytes 0 true (take count unread) parse → read_part true (other_field_count kind) bytes ≡ parse
+  gives_first gives = rw (stored, lent_fields kind) at gives.is
 
-  pub joint_stopped : (r : ReadRefusal) → PartRead bytes 0 true (take count unread) fields levers (Err r)
-      → read_joint kind bytes ≡ refused (read_refusal r)
+  pub joint_stopped : {r : ℕ} → PartGives bytes 0 true (take count unread) (refused r) → read_joint kind bytes ≡ refused r
   unfolding read_joint
-  joint_stopped r read = rw (← reads read)
+  joint_stopped gives = rw (gives_first gives)
 
-  pub joint_goes_on : (next : ℕ) → PartRead bytes 0 true (take count unread) fields levers (Ok next)
-      → read_joint kind bytes ≡ read_second (fields ++ drop count unread) levers (drop next bytes)
+  pub joint_goes_on : {part : Part} {left : List ℕ} → PartGives bytes 0 true (take count unread) (got part left)
+      → read_joint kind bytes ≡ read_second (part.fields ++ drop count unread) part.levers left
   unfolding read_joint
-  joint_goes_on next read = rw (← reads read, stored, kept_fields kind)
+  joint_goes_on gives = rw (gives_first gives, stored, kept_fields kind)
 
 -- ---- writing
 

@@ -1,5 +1,5 @@
--- A test of each face that a joint has: what it comes to at each place where the code stops, and what it says of the faces; and of the
--- test of the row counts, that there are few rows. By cases on the mark. Assumes nothing.
+-- A test of each face that a joint has: it passes where both faces do, and what it says of each; and of the test of the row counts, that
+-- there are few rows. By cases on the mark. Assumes nothing.
 use Prim.Native.Nat.{ℕ, ◌≤◌}
 use mathlib.Core.Path.{◌≡◌, refl}
 use mathlib.Core.Bool.{Bool, true, false, cond, and-eq-true_iff}
@@ -13,16 +13,6 @@ use Rattle.joint.specs.declared.Joint.{Joint}
 use Rattle.jointfile.specs.Write.{rows_check}
 
 module _ (test : Face → Bool) (joint : Joint) where
-  pub first_fails : test (first_face joint.face) ≡ false → false ≡ on_faces test joint
-  first_fails first = rw first
-
-  pub second_decides : test (first_face joint.face) ≡ true → two_faced joint.face.rows ≡ true
-      → test joint.other ≡ on_faces test joint
-  second_decides first two = rw (first, two)
-
-  pub first_decides : test (first_face joint.face) ≡ true → two_faced joint.face.rows ≡ false → true ≡ on_faces test joint
-  first_decides first one = rw (first, one)
-
   pub both_pass : test (first_face joint.face) ≡ true → (two_faced joint.face.rows ≡ true → test joint.other ≡ true)
       → on_faces test joint ≡ true
   both_pass first second = rw first (by_mark (two_faced joint.face.rows) second)

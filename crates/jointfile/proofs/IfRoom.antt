@@ -34,10 +34,6 @@ first_short (x ∷ xs) low =
     let one : length (stored x) ≡ 1 = rw (groups_last 4 x low) in
     rw length-append (omega (arith, stored_all_short xs))
 
--- so many numbers are no longer than five bytes each
-pub size_most : (xs : List ℕ) {size most : ℕ} → size ≡ length (stored_all xs) → length xs ≤ most → size ≤ 5 * most
-size_most xs size few = omega (arith, size, stored_all_short xs)
-
 -- the bytes of a file are those of its four lists
 pub numbers_size : (fields levers own other_levers : List ℕ)
     → length (stored_all fields) + length (stored_all levers) + length (stored_all own) + length (stored_all other_levers)

@@ -1,13 +1,16 @@
 -- What the code's answers mean, what its steps require, and which joints the round trip is about. Assumes nothing.
-use Rattle.std.specs.Prelude.{ℕ, Result, Ok, Err, ◌+◌, ◌-◌, ◌^◌, ◌≤◌, ◌<◌, ◌≡◌, List, [], ◌∷◌, ◌++◌, Bool, true, false, cond, length, get_or, drop}
+use Rattle.std.specs.Prelude.{ℕ, Result, Ok, Err, ◌+◌, ◌-◌, ◌^◌, ◌≤◌, ◌<◌, ◌≡◌, List, [], ◌∷◌, ◌++◌, true, false, cond, length, get_or, drop}
+use Rattle.arithmetic.specs.Range.{within}
+use Rattle.joint.specs.Ranges.{row_counts}
 use Rattle.joint.specs.Faces.{two_faced}
 use Rattle.joint.specs.declared.Joint.{Joint}
 use Rattle.numbers.specs.Parse.{Parse, got, refused}
 use Rattle.numbers.specs.Run.{stored_all}
 use Rattle.numbers.specs.Answers.{number_of, end_place}
+use Rattle.numbers.specs.declared.number.Number.{Number}
 use Rattle.numbers.specs.declared.number.NumberRefusal.{NumberRefusal}
 use Rattle.fields.specs.Fields.{field_count, own_count, second_face_of}
-use Rattle.jointfile.specs.File.{Part, lacking, stored_field_count, no_part, read_others, read_part, no_joint, Reading}
+use Rattle.jointfile.specs.File.{Part, lacking, stored_field_count, no_part, read_others, no_joint, Reading}
 use Rattle.jointfile.specs.Write.{first_fields, second_fields, Writing, turned_down, rows_check, spare_check, room_check, tried}
 use Rattle.jointfile.specs.declared.FileKind.{FileKind}
 use Rattle.jointfile.specs.declared.Reading.{Reading as ReadJoint}
@@ -52,10 +55,13 @@ pub record OthersRead (bytes : List ℕ) (from rows : ℕ) (entry others levers 
   pub means : (count : ℕ) → part_meaning number_of bytes (count ∷ others) levers run ≡ read_others (length entry) count rows (drop from bytes)
   pub within : from ≤ length bytes → end_place run ≤ length bytes
 
--- The answer to reading a part from a place on, whose fields have the places of `entry`.
-pub record PartRead (bytes : List ℕ) (from : ℕ) (first : Bool) (entry fields levers : List ℕ) (run : Result ℕ ReadRefusal) : Type 0 where
-  pub means : part_meaning read_refusal bytes fields levers run ≡ read_part first (length entry - 1) (drop from bytes)
-  pub within : end_place run ≤ length bytes
+-- The answer to reading a part after its row count, which stands for so many rows, where its fields have the places of `entry`: 3 where a
+-- part can't have so many, or what follows the count.
+pub record PartRead (bytes : List ℕ) (count : Number) (rows : ℕ) (entry fields levers : List ℕ) (run : Result ℕ ReadRefusal) : Type 0 where
+  pub means :
+      part_meaning read_refusal bytes fields levers run
+      ≡ cond (within row_counts rows) (read_others (length entry - 1) count.value rows (drop count.next bytes)) (refused 3)
+  pub within : count.next ≤ length bytes → end_place run ≤ length bytes
 
 -- The bytes of the numbers of a part; and of a file: of the first face, and of the second, none where there is no second.
 abbrev pub part_stored : (fields levers : List ℕ) → List ℕ

@@ -11,7 +11,7 @@ ghost use Rattle.buffers.specs.Writing.{Puts, HasRoom};
 ghost use Rattle.numbers.specs.Answers.{number_of};
 ghost use Rattle.numbers.specs.Run.{all_zero};
 ghost use Rattle.fields.specs.Fields.{field};
-ghost use Rattle.jointfile.specs.File.{stored_field_count, rows_by, read_second, answer, reading, rest_of};
+ghost use Rattle.jointfile.specs.File.{stored_field_count, read_second, answer, reading, rest_of};
 ghost use Rattle.jointfile.specs.Write.{rows_check, spare_check, file, writing};
 ghost use Rattle.jointfile.specs.Answers.{read_refusal, write_refusal, reading_meaning, OthersRead, PartRead};
 ghost use Rattle.jointfile.specs.Answers.{written_meaning, writing_if_room, part_stored, numbers_stored, FileParts};
@@ -20,11 +20,11 @@ ghost use Rattle.jointfile.specs.declared.FileKind.TheVariants.{New};
 use buffers::Writer;
 use fields::{FIELD_COUNT, OWN_COUNT, fields_of, joint_of, own_of};
 use joint::{Joint, first_rows, is_row_count, is_two_faced};
-use numbers::number::{NumberRefusal, number_at};
+use numbers::number::{Number, NumberRefusal, number_at};
 use numbers::run::{all_zero, numbers_at, put_numbers, stored_size};
 
 // The kinds of joint file. The old one has no z, field 30.
-#[derive(Clone, Copy)]
+#[derive(Clone, Copy, PartialEq, Eq, Debug)]
 pub enum FileKind {
     Old,
     New,
@@ -78,14 +78,8 @@ pub struct Reading {
     pub next: usize,
 }
 
-// The rows of a part by its row count; only a joint's first face has one that may be marked.
-fn rows_by(first: bool, count: u32) -> u32
-    ensures { result ≡ rows_by first count }
-{
-    if first { first_rows(count) } else { count }
-}
-
 // Reads what follows a row count: the other fields, and the levers into the first places of eight that are 0. Answers the place after them.
+#[tactic(auto, using(crate::proofs::Answers::others_stopped))]
 fn read_others(
     bytes: &[u8],
     from: usize,
@@ -100,19 +94,19 @@ fn read_others(
     numbers_at(bytes, after, &mut levers[..rows])
 }
 
-// Reads a face's part of a file, and answers the place after it. The row count is judged as soon as it is read.
+// Reads a face's part of a file after its row count, which stands for so many rows and is judged first. Answers the place after it.
+#[tactic(auto, using(crate::proofs::Answers::part_taken, crate::proofs::Answers::lent_others, crate::proofs::Answers::counted))]
 fn read_part(
     bytes: &[u8],
-    from: usize,
-    first: bool,
+    count: Number,
+    rows: u32,
     fields: &mut [u32],
     levers: &mut [u32],
 ) -> Result<usize, ReadRefusal>
     requires { (1 ≤ length fields.old) × (levers.old ≡ replicate 8 0) }
-    ensures { PartRead bytes.now from first fields.old fields.new levers.new result }
+    ensures { PartRead bytes.now count rows fields.old fields.new levers.new result }
 {
-    let count = number_at(bytes, from)?;
-    let rows = rows_by(first, count.value) as usize;
+    let rows = rows as usize;
     if !is_row_count(rows) {
         return Err(ReadRefusal::RowCount);
     }
@@ -121,7 +115,7 @@ fn read_part(
     Ok(next)
 }
 
-// Reads the second face's part, after the first one's, whose count is marked.
+// Reads the second face's part, after the first one's, whose count is marked. Its own count isn't.
 fn read_second(
     bytes: &[u8],
     from: usize,
@@ -134,7 +128,8 @@ fn read_second(
 {
     let mut own = [0; OWN_COUNT];
     let mut other_levers = [0; 8];
-    let next = read_part(bytes, from, false, &mut own, &mut other_levers)?;
+    let count = number_at(bytes, from)?;
+    let next = read_part(bytes, count, count.value, &mut own, &mut other_levers)?;
     let joint = joint_of(fields, levers, own, other_levers);
     Ok(Reading { joint, next })
 }
@@ -147,7 +142,14 @@ pub fn read(bytes: &[u8], kind: FileKind) -> Result<Reading, ReadRefusal>
     fields[FIELD_COUNT - 1] = UNTOLD_END_DISTANCE;
     let mut levers = [0; 8];
     let stored = stored_field_count(kind);
-    let next = read_part(bytes, 0, true, &mut fields[..stored], &mut levers)?;
+    let count = number_at(bytes, 0)?;
+    let next = read_part(
+        bytes,
+        count,
+        first_rows(count.value),
+        &mut fields[..stored],
+        &mut levers,
+    )?;
     if is_two_faced(fields[0]) {
         return read_second(bytes, next, fields, levers);
     }
@@ -189,6 +191,7 @@ pub const LEAST_TWO_FACED: usize = LEAST_FILE + OWN_COUNT + 1;
 
 // Whether so many places hold the numbers of a file. The first takes one byte and each other at most five; only a buffer that may be too
 // short by that asks for measuring. They are four slices and no structs, since writing files of two faces from structs was slower.
+#[tactic(auto, using(numbers::proofs::Sizes::stored_all_short, crate::proofs::IfRoom::numbers_size, crate::proofs::IfRoom::numbers_fit))]
 fn has_room(fields: &[u32], levers: &[u32], own: &[u32], other_levers: &[u32], room: usize) -> bool
     requires { FileParts fields.now levers.now own.now other_levers.now }
     ensures { result
@@ -201,6 +204,7 @@ fn has_room(fields: &[u32], levers: &[u32], own: &[u32], other_levers: &[u32], r
 }
 
 // Puts the numbers of a file into the buffer, if there is room for them, and answers how long they are.
+#[tactic(auto, using(crate::proofs::IfRoom::short_of_room, crate::proofs::IfRoom::writer_room, buffers::proofs::Writers::has_room_after))]
 fn put_file(
     fields: &[u32],
     levers: &[u32],
@@ -223,6 +227,7 @@ fn put_file(
 }
 
 // Puts the numbers of a part, for which there is room.
+#[tactic(auto, using(buffers::proofs::Writers::has_room_after))]
 fn put_part(writer: &mut Writer, fields: &[u32], levers: &[u32])
     requires { HasRoom writer.old (length (part_stored fields.now levers.now)) }
     ensures { Puts writer.old (part_stored fields.now levers.now) writer.new }
@@ -232,14 +237,14 @@ fn put_part(writer: &mut Writer, fields: &[u32], levers: &[u32])
 }
 
 // Refusal 3's question of each face that a joint has: whether it may have so many rows.
+#[tactic(auto, unfolding(joint::specs::Faces::first_face))]
 fn has_row_counts(joint: Joint) -> bool
     ensures { result ≡ (rows_check joint).1 }
 {
-    let face = joint.face;
-    if !is_row_count(first_rows(face.rows) as usize) {
+    if !is_row_count(first_rows(joint.face.rows) as usize) {
         return false;
     }
-    if is_two_faced(face.rows) {
+    if is_two_faced(joint.face.rows) {
         return is_row_count(joint.other.rows as usize);
     }
     true
@@ -254,6 +259,7 @@ fn is_spare_zero(rows: u32, levers: [u32; 8]) -> bool
 }
 
 // Refusal 6's question of each face that a joint has: whether its spare levers are 0.
+#[tactic(auto, using(crate::proofs::Faces::first_rows_few, crate::proofs::Faces::second_rows_few), unfolding(joint::specs::Faces::first_face))]
 fn has_zero_spares(joint: Joint) -> bool
     requires { (rows_check joint).1 ≡ true }
     ensures { result ≡ (spare_check joint).1 }
@@ -292,6 +298,7 @@ fn write_parts(joint: Joint, buffer: &mut [u8]) -> Result<usize, WriteRefusal>
 
 // Writes a joint's file, of the new kind, to the front of the buffer, and answers its length. Each refusal is tried on both faces before
 // the next.
+#[tactic(auto, using(crate::proofs::Answers::writing_rows, crate::proofs::Answers::writing_spare, crate::proofs::Answers::writing_file))]
 pub fn write(joint: Joint, buffer: &mut [u8]) -> Result<usize, WriteRefusal>
     ensures { written_meaning result buffer.new ≡ writing joint buffer.old }
 {

@@ -2,14 +2,8 @@
 use mathlib.Core.Path.{◌≡◌, ◌∙◌}
 use lib.ListN.{length, take}
 use lib.Seq.{length-take-le}
-use Rattle.std.proofs.lemmas.Result.{err_from_is_err_and}
-use Rattle.jointfile.proofs.Answers.{others_stopped, others_taken}
+use Rattle.jointfile.proofs.Answers.{others_taken}
 use Rattle.jointfile.proofs.read_others.Goals as goal
-
-pub returns-in_err-after : goal.returns-in_err-after
-returns-in_err-after c =
-    let p = err_from_is_err_and c.from_residual.result c.from_residual.ensures.1 in
-    rw (p.1, p.2) (others_stopped _ _ c.in_err-after.ensures)
 
 pub returns : goal.returns
 returns c =
