@@ -5,6 +5,7 @@
 
 ghost use Rattle.std.specs.Prelude.{◌≤◌, ◌≡◌, [], ◌∷◌, leb, length};
 ghost use Rattle.buffers.specs.Put.{Put};
+ghost use Rattle.numbers.specs.Number.{Bytes};
 ghost use Rattle.line.specs.Line.{concatenated};
 ghost use Rattle.printer.specs.Sheet.{most_input, joint_lines, lines_of, over_long, sheet_of};
 ghost use Rattle.printer.specs.Answers.{printing, printed_meaning, most_printed};
@@ -18,13 +19,13 @@ use line::{MOST_LINE, put_outcome, put_read_refusal};
 // Joints count from 1.
 const FIRST: u64 = 1;
 
-// An input of more bytes is refused by 4.
+// Of a longer input no joint is read: its sheet is `R 4`.
 pub const MOST_INPUT: usize = 65536;
 
 // No line takes fewer bytes of input, but that of what is left: two lines take the shortest file of two faces.
 const LEAST_PER_LINE: usize = LEAST_TWO_FACED / 2;
 
-// No sheet is longer.
+// No sheet is longer: `most_printed` of the longest input, written out since a constant's value can't be a call yet.
 pub const MOST_SHEET: usize = (MOST_INPUT + (LEAST_PER_LINE - 1)) / LEAST_PER_LINE * MOST_LINE;
 
 // There is no room for all lines.
@@ -39,7 +40,7 @@ pub fn sheet(input: &[u8], output: &mut [u8]) -> Result<usize, NoRoom>
     if MOST_INPUT < input.len() {
         return print_over_long(output);
     }
-    print_joints(input, output)
+    SheetInput { bytes: input }.print(output)
 }
 
 // `R 4`, and nothing else.
@@ -53,36 +54,6 @@ fn print_over_long(output: &mut [u8]) -> Result<usize, NoRoom>
     Ok(4)
 }
 
-fn print_joints(input: &[u8], output: &mut [u8]) -> Result<usize, NoRoom>
-    requires { length input.now ≤ most_input }
-    ensures { printed_meaning result output.new
-        ≡ printing (concatenated (lines_of 1 input.now)) output.old }
-{
-    if !has_room(input, output.len()) {
-        return Err(NoRoom);
-    }
-    Ok(put_lines(input, output))
-}
-
-// Puts all lines to the front of the output, and answers their size.
-fn put_lines(input: &[u8], output: &mut [u8]) -> usize
-    requires few { length input.now ≤ most_input }
-    requires room { length (concatenated (lines_of 1 input.now)) ≤ length output.old }
-    ensures { Put output.old 0 (concatenated (lines_of 1 input.now)) output.new result }
-{
-    let mut writer = Writer::new(output);
-    put_joints(&mut writer, input);
-    writer.at
-}
-
-// Whether so many places hold the lines. Only an output that is shorter than the longest sheet of so many bytes asks for measuring.
-fn has_room(input: &[u8], room: usize) -> bool
-    requires { length input.now ≤ most_input }
-    ensures { result ≡ leb (length (concatenated (lines_of 1 input.now))) room }
-{
-    most_printed(input.len()) <= room || lines_size(input) <= room
-}
-
 // No sheet of `count` bytes of input is longer: a line for each `LEAST_PER_LINE` of them, and one for what is left.
 fn most_printed(count: usize) -> usize
     requires { count ≤ most_input }
@@ -91,33 +62,68 @@ fn most_printed(count: usize) -> usize
     (count + (LEAST_PER_LINE - 1)) / LEAST_PER_LINE * MOST_LINE
 }
 
-// The size of all lines.
-fn lines_size(input: &[u8]) -> usize
-    requires { length input.now ≤ most_input }
-    ensures { result ≡ length (concatenated (lines_of 1 input.now)) }
-{
-    let mut counter = Counter { count: 0 };
-    put_joints(&mut counter, input);
-    counter.count
+// An input whose joints are read: it isn't too long.
+#[derive(Clone, Copy)]
+struct SheetInput<'a> {
+    bytes: &'a [u8],
+    ghost few: { length bytes.now ≤ most_input },
+    ghost fit: { Bytes bytes.now },
 }
 
-// Hands over all lines. A joint that can't be read is the last. The bound keeps the joints' count in range. Not by `for`: where the next
-// joint begins is known once the one before is read.
-fn put_joints<S: Sink>(sink: &mut S, input: &[u8])
-    requires few { length input.now ≤ most_input }
-    requires room { S.has_room sink.old (concatenated (lines_of 1 input.now)) }
-    ensures { S.takes sink.old (concatenated (lines_of 1 input.now)) sink.new }
-{
-    let mut left = input;
-    let mut number = FIRST;
-    while !left.is_empty() {
-        match read(left, FileKind::New) {
-            Ok(reading) => {
-                put_joint(sink, number, reading.joint);
-                left = &left[reading.next..];
-                number += 1;
+impl SheetInput<'_> {
+    fn print(self, output: &mut [u8]) -> Result<usize, NoRoom>
+        ensures { printed_meaning result output.new
+            ≡ printing (concatenated (lines_of 1 self.entry.bytes.now)) output.old }
+    {
+        if !self.has_room(output.len()) {
+            return Err(NoRoom);
+        }
+        Ok(self.put_lines(output))
+    }
+
+    // Puts all lines to the front of the output, and answers their size.
+    fn put_lines(self, output: &mut [u8]) -> usize
+        requires { length (concatenated (lines_of 1 self.bytes.now)) ≤ length output.old }
+        ensures { Put output.old 0 (concatenated (lines_of 1 self.entry.bytes.now)) output.new result }
+    {
+        let mut writer = Writer::new(output);
+        self.put_joints(&mut writer);
+        writer.at
+    }
+
+    // Whether so many places hold the lines. Only an output that is shorter than the longest sheet of so many bytes asks for measuring.
+    fn has_room(self, room: usize) -> bool
+        ensures { result ≡ leb (length (concatenated (lines_of 1 self.entry.bytes.now))) room }
+    {
+        most_printed(self.bytes.len()) <= room || self.lines_size() <= room
+    }
+
+    // The size of all lines.
+    fn lines_size(self) -> usize
+        ensures { result ≡ length (concatenated (lines_of 1 self.entry.bytes.now)) }
+    {
+        let mut counter = Counter { count: 0 };
+        self.put_joints(&mut counter);
+        counter.count
+    }
+
+    // Hands over all lines. A joint that can't be read is the last. Not by `for`: where the next joint begins is known once the one before
+    // is read.
+    fn put_joints<S: Sink>(self, sink: &mut S)
+        requires { S.has_room sink.old (concatenated (lines_of 1 self.bytes.now)) }
+        ensures { S.takes sink.old (concatenated (lines_of 1 self.entry.bytes.now)) sink.new }
+    {
+        let mut left = self.bytes;
+        let mut number = FIRST;
+        while !left.is_empty() {
+            match read(left, FileKind::New) {
+                Ok(reading) => {
+                    put_joint(sink, number, reading.joint);
+                    left = &left[reading.next..];
+                    number += 1;
+                }
+                Err(refusal) => return put_read_refusal(sink, number, refusal),
             }
-            Err(refusal) => return put_read_refusal(sink, number, refusal),
         }
     }
 }

@@ -3,30 +3,16 @@
 // said on standard error.
 #![tactic(auto)]
 
-ghost use Rattle.std.specs.Prelude.{◌+◌, ◌≤◌, ◌≡◌, length};
-ghost use Rattle.printer.specs.Sheet.{most_input};
+ghost use Rattle.std.specs.Prelude.{◌≤◌, length};
 ghost use Rattle.printer.specs.Answers.{most_sheet};
 ghost use Rattle.sheet.specs.Whole.{Whole};
 
-use input::read_whole;
+use input::{read_whole, space};
 use printer::{MOST_INPUT, MOST_SHEET};
 use std::io::Write;
 
 // One byte more than a sheet takes, so that an input that is too long is seen to be.
 const INPUT_SPACE: usize = MOST_INPUT + 1;
-
-// Zeros for what is read, and for what is printed: no sheet is longer. In spaces of a fixed size neither can run out of memory.
-fn input_space() -> [u8; INPUT_SPACE]
-    ensures { most_input + 1 ≡ length result }
-{
-    [0; INPUT_SPACE]
-}
-
-fn output_space() -> [u8; MOST_SHEET]
-    ensures { most_sheet ≡ length result }
-{
-    [0; MOST_SHEET]
-}
 
 // Prints the sheet of the input, whole, to the front of the output. There is always room for it.
 fn print_sheet(input: &[u8], output: &mut [u8]) -> usize
@@ -37,14 +23,14 @@ fn print_sheet(input: &[u8], output: &mut [u8]) -> usize
 }
 
 fn main(rt: HostRuntime) {
-    let mut input = input_space();
+    let mut input = space::<INPUT_SPACE>();
     let Ok(got) = read_whole(&mut rt.stdin(), &mut input) else {
         let _told = eprintln!(rt;
             "sheet: the input could not be read to its end; nothing is printed"
         );
         return;
     };
-    let mut output = output_space();
+    let mut output = space::<MOST_SHEET>();
     let size = print_sheet(&input[..got], &mut output);
     if rt.stdout().write_all(&output[..size]).is_err() {
         let _told = eprintln!(rt;

@@ -85,7 +85,10 @@ impl<'a> JointWords<'a> {
         OneFaced {
             column: fields::column_of(&fields),
             bolts: fields::bolts_of(&fields),
-            face: fields::first_face_of(&fields, words[FIELD_COUNT..FIRST_WORDS].try_into().unwrap()),
+            face: fields::first_face_of(
+                &fields,
+                words[FIELD_COUNT..FIRST_WORDS].try_into().unwrap(),
+            ),
         }
     }
 

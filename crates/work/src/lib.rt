@@ -57,7 +57,7 @@ pub fn work_alone(shared: &SharedParts, face: Face) -> Result<FaceResult, JointR
     ensures demand { IfOk result
         (λ worked. Demand3For true shared.now.column shared.now.bolts shared.now.area face worked) }
 {
-    work_connection(true, shared, face).map_err(|refusal| refusal.on(RefusedFace::Only))
+    work_connection(true, shared, face).map_err(|why| why.on(RefusedFace::Only))
 }
 
 // Both faces, the first before the second. Panel shear counts in neither's cap.
@@ -67,10 +67,8 @@ fn work_faces(shared: &SharedParts, first: Face, second: Face) -> Result<Worked,
     ensures demand { OnOk result
         (FacesDemand3 shared.now.column shared.now.bolts shared.now.area first second (outcome_meaning result)) }
 {
-    let one = work_connection(false, shared, first)
-        .map_err(|refusal| refusal.on(RefusedFace::First))?;
-    let two = work_connection(false, shared, second)
-        .map_err(|refusal| refusal.on(RefusedFace::Second))?;
+    let one = work_connection(false, shared, first).map_err(|why| why.on(RefusedFace::First))?;
+    let two = work_connection(false, shared, second).map_err(|why| why.on(RefusedFace::Second))?;
     let panel_passes = panel_passes(shared.column, one.sum, first.loads, two.sum, second.loads);
     Ok(Worked {
         result: one,

@@ -16,6 +16,6 @@ returns-then-input-gt-MOST_INPUT c =
 pub returns : goal.returns
 returns c =
     let args = c.args in
-    c.print_joints.ensures
+    c.print.ensures
     ∙ ap (λ (lines : List Line). printing (concatenated lines) args.output.now)
     (sym (sheet_joints args.input.now c.if-input-gt-MOST_INPUT.false))

@@ -1,7 +1,6 @@
 -- `TableWords::put` meets its contract: the words of the table of words are those words. Assumes nothing.
-use Rattle.std.proofs.Common.{◌≡◌, ◌≤◌, List, ℕ, [], ◌∷◌, length, take, refl, sym, ap, ◌∙◌, arith, rules, length-take-le}
+use Rattle.std.proofs.Common.{◌≡◌, ◌≤◌, List, ℕ, [], ◌∷◌, length, take, ap, arith, length-take-le}
 use Rattle.std.proofs.Math.Seq.{take-add}
-use Rattle.buffers.specs.Put.{at_front}
 use Rattle.words.specs.Tables.{table_word_count, table_of_words, words_of_table}
 use Rattle.words.proofs.Copies.{first_run}
 use Rattle.words.proofs.tables.TableWords.put.Goals as goal
