@@ -34,6 +34,7 @@ impl LimitsRefusal {
 
 // The forces of `count` bolt rows under the limits of their groups, in newtons: groups 1–1, 1–2, .. 1–n, 2–2 and so on. Row 1's force is
 // first, and past the last row they are 0.
+#[tactic(auto, using(crate::proofs::Answers::refused_by_3, crate::proofs::Answers::refused_by_7, crate::proofs::Answers::refused_by_8, crate::proofs::Answers::shareable), unfolding(sharing::specs::Groups::group_count))]
 pub fn allocate(count: usize, limits: &[u64]) -> Result<[u64; 8], LimitsRefusal>
     ensures equals { allocation_meaning result ≡ allocated count limits.now }
     ensures best { IfOk result (λ forces. Best (listed count limits.now) count (take count forces)) }

@@ -104,7 +104,7 @@ impl<'a> FaceAtWork<'a> {
         if pitch < 25 * self.bolt.diameter {
             return Err(FaceRefusal::RowsTooClose);
         }
-        if !refusals::rows_in_place(*face) {
+        if !refusals::rows_in_place(face) {
             return Err(FaceRefusal::RowOutOfPlace);
         }
         if refusals::too_tight(face.extended, self.spacing) {
@@ -191,12 +191,12 @@ impl<'a> FaceAtWork<'a> {
                 face.loads.shear,
             ),
             flange_weld: verdicts::flange_weld(
-                *face,
+                face,
                 self.steel.beam,
                 weld,
                 verdicts::top_rows(face.extended, forces),
             ),
-            web_weld: verdicts::web_weld(*face, weld),
+            web_weld: verdicts::web_weld(face, weld),
         }
     }
 }

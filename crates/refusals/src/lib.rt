@@ -27,9 +27,9 @@ pub fn least_pitch(levers: &[u32]) -> u64
 
 // Extended row 1 stands over the beam, every other row under its flange.
 #[tactic(auto, unfolding(crate::specs::Refusals::rows_in_place))]
-pub fn rows_in_place(face: Face) -> bool
-    requires { PlacesInRange face }
-    ensures { result ≡ rows_in_place face }
+pub fn rows_in_place(face: &Face) -> bool
+    requires { PlacesInRange face.now }
+    ensures { result ≡ rows_in_place face.now }
 {
     let depth = face.beam.depth;
     let flange = face.beam.flange;

@@ -1,15 +1,14 @@
 // The tension side: the limit of every group of bolt rows (rules 4). Rows count from 0.
-// Lengths are in hundredths of a millimetre. Work calls these for joints that refusals 10, 11 and 13 let pass.
+// Lengths are in hundredths of a millimetre. Work calls these for joints that refusals 10, 11 and 13 let pass. A usize converts by `as`:
+// std has no From for it.
 #![tactic(auto)]
 
 ghost use Rattle.std.specs.Prelude.{◌≡◌, ℕ, ◌+◌, ◌-◌, ◌<◌, length, get_or, cond, eqb};
-ghost use Rattle.arithmetic.specs.Range.{Within};
-ghost use Rattle.stubs.specs.InRange.{rises};
 ghost use Rattle.tension.specs.Limits.{extension_bending, group_limit};
 ghost use Rattle.tension.specs.Admissible.{Admissible, FiguresGiven, LimitsAsked, ExtensionFigures};
 ghost use Rattle.tension.specs.Admissible.{FillAsked, RowAsked, FilledFrom, TableFilled};
 ghost use Rattle.tension.specs.Dimensions.{column_by, plate_side_by, plate_by, webs_by, limit_by, limits_by, dimensions_of};
-ghost use Rattle.tension.specs.InRange.{DimensionsWithin, GroupInRange};
+ghost use Rattle.tension.specs.InRange.{GroupInRange};
 
 use joint::{Column, Face};
 use spacing::Spacing;

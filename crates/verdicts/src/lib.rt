@@ -125,9 +125,9 @@ fn weld_capacity(leg: u32, length: u32, strength: u64) -> u64
 
 // Flange weld, from yb, pw and the sum of the top rows.
 #[tactic(auto, unfolding(crate::specs::Welds::flange_weld_by))]
-pub fn flange_weld(face: Face, beam_strength: u64, weld_strength: u64, top: u64) -> bool
-    requires { FlangeWeldAsked face beam_strength weld_strength }
-    ensures { result ≡ flange_weld_by face top }
+pub fn flange_weld(face: &Face, beam_strength: u64, weld_strength: u64, top: u64) -> bool
+    requires { FlangeWeldAsked face.now beam_strength weld_strength }
+    ensures { result ≡ flange_weld_by face.now top }
 {
     let beam = face.beam;
     let leg = face.welds.flange;
@@ -148,9 +148,9 @@ fn flange_capacity(strength: u64, beam: Beam) -> u64
 
 // Web weld, from pw.
 #[tactic(auto, unfolding(crate::specs::Welds::web_weld_passes))]
-pub fn web_weld(face: Face, strength: u64) -> bool
-    requires { FaceInRange face × (strength ≡ weld_strength face.beam.grade face.plate.grade) }
-    ensures { result ≡ web_weld_passes face }
+pub fn web_weld(face: &Face, strength: u64) -> bool
+    requires { FaceInRange face.now × (strength ≡ weld_strength face.now.beam.grade face.now.plate.grade) }
+    ensures { result ≡ web_weld_passes face.now }
 {
     u64::from(face.loads.shear) <= weld_capacity(face.welds.web, face.welds.length, strength)
 }

@@ -1,40 +1,43 @@
 -- `Dimensions::new` meets its contract, figure by figure: what was measured is what the definitions say. Assumes nothing.
 use mathlib.Core.Path.{◌∙◌}
-use Prim.Native.Nat.{◌*◌, ◌/◌}
+use Prim.Native.Nat.{◌*◌, ◌/◌, ◌≤◌}
 use native.Mathlib.Omega.{arith}
 use Rattle.arithmetic.proofs.Bounds.{◌⊗◌, fits}
+use Rattle.stubs.specs.InRange.{edge_distances}
 use Rattle.stubs.specs.Worked.{lengths_of}
 use Rattle.tension.specs.Dimensions.{dimensions_of}
 use Rattle.tension.proofs.Sizes.{Sizes, sizes, column_parts, plate_parts, extension_figures}
 use Rattle.tension.proofs.Worked.{column_stub, plate_stub}
 use Rattle.tension.proofs.Dimensions.new.Goals as goal
-use Rattle.tension.proofs.Dimensions.new.Goals.{Start}
+use Rattle.tension.proofs.Dimensions.new.Goals.{After-min-edge}
 
-sizes_at : (c : Start) → Sizes c.args.spacing c.args.steel
+sizes_at : (c : After-min-edge) → Sizes c.args.spacing c.args.steel
 sizes_at c =
     sizes c.args.column.now c.args.face.now c.requires.0 c.args.spacing c.args.steel c.args.pair c.requires.1
+
+-- n' is at most some edge distance
+edge_most : (c : After-min-edge) → c.min-edge.result ≤ edge_distances.high
+edge_most c = omega (arith, c.min-edge.ensures, (sizes_at c).column_edge.high, (sizes_at c).plate_edge.high)
 
 pub new-requires : goal.new-requires
 new-requires c =
     let here = goal.at.new-requires c in
-    column_parts c.args.column.now c.args.face.now c.requires.0 c.args.spacing c.args.steel c.args.pair c.requires.1 _
-    (omega (arith, c.min-edge.ensures, (sizes_at here.Start).column_edge.high, (sizes_at here.Start).plate_edge.high))
+    column_parts _ _ c.requires.0 _ _ _ c.requires.1 _ (edge_most here.After-min-edge)
 
 pub new-requires-2 : goal.new-requires-2
 new-requires-2 c =
     let here = goal.at.new-requires-2 c in
-    plate_parts c.args.column.now c.args.face.now c.requires.0 c.args.spacing c.args.steel c.args.pair c.requires.1 _
-    (omega (arith, c.min-edge.ensures, (sizes_at here.Start).column_edge.high, (sizes_at here.Start).plate_edge.high))
+    plate_parts _ _ c.requires.0 _ _ _ c.requires.1 _ (edge_most here.After-min-edge)
 
 pub overflow_mul-result-3 : goal.overflow_mul-result-3
 overflow_mul-result-3 c =
     let here = goal.at.overflow_mul-result-3 c in
-    rw c.from-3.ensures (fits (c.requires.0.column.web ⊗ (sizes_at here.Start).strengths.column) tt)
+    rw c.from-3.ensures (fits (c.requires.0.column.web ⊗ (sizes_at here.After-min-edge).strengths.column) tt)
 
 pub overflow_mul-result-4 : goal.overflow_mul-result-4
 overflow_mul-result-4 c =
     let here = goal.at.overflow_mul-result-4 c in
-    rw c.from-4.ensures (fits (c.requires.0.face.beam.web ⊗ (sizes_at here.Start).strengths.beam) tt)
+    rw c.from-4.ensures (fits (c.requires.0.face.beam.web ⊗ (sizes_at here.After-min-edge).strengths.beam) tt)
 
 pub extension_limit-requires : goal.extension_limit-requires
 extension_limit-requires c = extension_figures _ _ c.requires.0 _ _ _ c.requires.1
