@@ -90,6 +90,7 @@ fn put_face<S: Sink>(sink: &mut S, face: RefusedFace)
 
 // ---- results
 
+// A line for each face. Sink, number and rows go through three steps as they are: a struct of them would be taken apart in each.
 fn put_faces<S: Sink>(sink: &mut S, number: u64, rows: u32, other_rows: u32, worked: &Worked)
     requires { S.has_room sink.old (concatenated (face_lines number rows other_rows (outcome_meaning (Ok worked.now)))) }
     ensures { S.takes sink.old (concatenated (face_lines number rows other_rows (outcome_meaning (Ok worked.now)))) sink.new }

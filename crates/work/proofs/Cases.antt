@@ -18,7 +18,7 @@ use Rattle.outcome.specs.declared.FaceRefusal.TheVariants.{OutOfRange, LeversDon
 use Rattle.outcome.specs.declared.FaceResult.{FaceResult}
 use Rattle.outcome.specs.declared.RefusedFace.{RefusedFace}
 use Rattle.outcome.specs.declared.RefusedFace.TheVariants.{First, Second}
-use Rattle.work.specs.Demand.{FacesDemand3, Demand3With}
+use Rattle.work.specs.Demand.{Demand3With}
 use Rattle.work.specs.Work.{of_one_face, if_taken, both_taken, worked_second, worked_faces, worked_with}
 
 -- ---- a face that may be refused
@@ -89,7 +89,7 @@ module _ (area : Option ℕ) (joint : Joint) where
 not_both : {test : Bool} → test ≡ true → test ≡ false → ⊥
 not_both e e' = let never : ◌≡◌ {A = ℕ} 0 1 = cc in absurd (omega arith)
 
--- ---- demand 3 by the call for one face, and by that for both
+-- ---- demand 3 by the call for one face
 
 module _ (area : Option ℕ) (joint : Joint) (outcome : Outcome) where
   pub demand_alone : two_faced joint.face.rows ≡ false
@@ -102,7 +102,3 @@ module _ (area : Option ℕ) (joint : Joint) (outcome : Outcome) where
             (first_alone joint.face alone) demand;
         two_faces = λ two. absurd (not_both two alone);
       }
-
-  pub demand_both : two_faced joint.face.rows ≡ true
-      → FacesDemand3 joint.column joint.bolts area (first_face joint.face) joint.other outcome → Demand3With area joint outcome
-  demand_both both demand = record { one_face = λ alone. absurd (not_both both alone); two_faces = λ two. demand }
