@@ -238,8 +238,8 @@ fn put_part(writer: &mut Writer, fields: &[u32], levers: &[u32])
 
 // Refusal 3's question of each face that a joint has: whether it may have so many rows.
 #[tactic(auto, unfolding(joint::specs::Faces::first_face))]
-fn has_row_counts(joint: Joint) -> bool
-    ensures { result ≡ (rows_check joint).1 }
+fn has_row_counts(joint: &Joint) -> bool
+    ensures { result ≡ (rows_check joint.now).1 }
 {
     if !is_row_count(first_rows(joint.face.rows) as usize) {
         return false;
@@ -260,9 +260,9 @@ fn is_spare_zero(rows: u32, levers: [u32; 8]) -> bool
 
 // Refusal 6's question of each face that a joint has: whether its spare levers are 0.
 #[tactic(auto, using(crate::proofs::Faces::first_rows_few, crate::proofs::Faces::second_rows_few), unfolding(joint::specs::Faces::first_face))]
-fn has_zero_spares(joint: Joint) -> bool
-    requires { (rows_check joint).1 ≡ true }
-    ensures { result ≡ (spare_check joint).1 }
+fn has_zero_spares(joint: &Joint) -> bool
+    requires { (rows_check joint.now).1 ≡ true }
+    ensures { result ≡ (spare_check joint.now).1 }
 {
     let count = joint.face.rows;
     if !is_spare_zero(first_rows(count), joint.face.levers) {
@@ -274,8 +274,8 @@ fn has_zero_spares(joint: Joint) -> bool
     true
 }
 
-// Writes the file of a joint whose row counts and spare levers are right. The levers are copied first: lending a part of a face's field
-// copies the whole face, which was slower.
+// Writes the file of a joint whose row counts and spare levers are right. It comes by value, and the levers are copied: of levers that a
+// joint behind a reference has no proof knows that they are eight, and lending a part of a face's field copies the whole face.
 fn write_parts(joint: Joint, buffer: &mut [u8]) -> Result<usize, WriteRefusal>
     requires { (rows_check joint).1 ≡ true }
     ensures { written_meaning result buffer.new ≡ writing_if_room (file New joint) buffer.old }
@@ -302,10 +302,10 @@ fn write_parts(joint: Joint, buffer: &mut [u8]) -> Result<usize, WriteRefusal>
 pub fn write(joint: Joint, buffer: &mut [u8]) -> Result<usize, WriteRefusal>
     ensures { written_meaning result buffer.new ≡ writing joint buffer.old }
 {
-    if !has_row_counts(joint) {
+    if !has_row_counts(&joint) {
         return Err(WriteRefusal::RowCount);
     }
-    if !has_zero_spares(joint) {
+    if !has_zero_spares(&joint) {
         return Err(WriteRefusal::SpareLever);
     }
     write_parts(joint, buffer)
