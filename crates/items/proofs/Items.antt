@@ -1,4 +1,4 @@
--- Items one after another: how long they are, and that one more joins those that were put, with the space before it.
+-- Items one after another: how long they are, and that one more joins those that were taken, with the space before it.
 -- Assumes nothing.
 use Prim.Native.Nat.{ℕ, ◌+◌, ◌*◌, ◌≤◌, ◌<◌}
 use mathlib.Core.Path.{◌≡◌, refl, ap}
@@ -40,17 +40,37 @@ unfolding spaced
 letters_size [] = refl
 letters_size (x ∷ xs) = omega (arith, letters_size xs)
 
--- an item, its space before it, and those after it
-module _ (f : ℕ → List ℕ) (xs : List ℕ) (i : ℕ) (inside : i < length xs) where
-  pub items_left : items f (drop i xs) ≡ (32 ∷ []) ++ (f (get_or xs i 0) ++ items f (drop (i + 1) xs))
-  unfolding spaced
-  items_left = rw (drop_more xs i 0 inside) refl
+-- one item more, and its space before it
+items_more : (f : ℕ → List ℕ) (xs : List ℕ) (i : ℕ) → i < length xs
+    → items f (take (i + 1) xs) ≡ items f (take i xs) ++ ((32 ∷ []) ++ f (get_or xs i 0))
+unfolding spaced
+items_more f xs i inside =
+    rw (add-one, take-suc xs i 0 inside, items_append)
+    (ap (λ (l : List ℕ). items f (take i xs) ++ (32 ∷ l)) (append-nil (f (get_or xs i 0))))
 
-  pub items_next : items f (take (i + 1) xs) ≡ items f (take i xs) ++ ((32 ∷ []) ++ f (get_or xs i 0))
-  unfolding spaced
-  items_next =
-      rw (add-one, take-suc xs i 0 inside, items_append)
-      (ap (λ (l : List ℕ). items f (take i xs) ++ (32 ∷ l)) (append-nil (f (get_or xs i 0))))
+-- ---- whatever takes items: those passed are taken, and there is room for the others
 
-pub items_all : (f : ℕ → List ℕ) (xs : List ℕ) (i : ℕ) → length xs ≤ i → items f (take i xs) ≡ items f xs
-items_all f xs i outside = rw (take_all i xs outside)
+pub record ItemsHead {Taker : Type 0} (takes : Taker → List ℕ → Taker → Type 0) (has_room : Taker → List ℕ → Type 0) (f : ℕ → List ℕ)
+    (xs : List ℕ) (begun : Taker) (i : ℕ) (taker : Taker) : Type 0 where
+  pub taken : takes begun (items f (take i xs)) taker
+  pub room : has_room taker (items f (drop i xs))
+
+module _ {Taker : Type 0} {takes : Taker → List ℕ → Taker → Type 0} {has_room : Taker → List ℕ → Type 0} {f : ℕ → List ℕ} {xs : List ℕ}
+    {begun : Taker} {i : ℕ} {taker : Taker} (head : ItemsHead takes has_room f xs begun i taker) where
+  -- room for the next item, its space before it, and those after it
+  pub items_left : i < length xs → has_room taker ((32 ∷ []) ++ (f (get_or xs i 0) ++ items f (drop (i + 1) xs)))
+  unfolding spaced
+  items_left inside = rw (drop_more xs i 0 inside) at head.room
+
+  pub items_next : ((a b c : Taker) (xs ys : List ℕ) → takes a xs b → takes b ys c → takes a (xs ++ ys) c)
+      → ((a b : Taker) (xs ys : List ℕ) → takes a xs b → has_room a (xs ++ ys) → has_room b ys)
+      → i < length xs → {between after : Taker} → takes taker (32 ∷ []) between → takes between (f (get_or xs i 0)) after
+      → ItemsHead takes has_room f xs begun (i + 1) after
+  items_next takes_both room_after inside space item =
+      record {
+        taken = rw (items_more f xs i inside) (takes_both _ _ _ _ _ head.taken (takes_both _ _ _ _ _ space item));
+        room = room_after _ _ _ _ item (room_after _ _ _ _ space (items_left inside));
+      }
+
+  pub items_all : length xs ≤ i → takes begun (items f xs) taker
+  items_all outside = rw (take_all i xs outside) at head.taken

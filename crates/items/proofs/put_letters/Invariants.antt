@@ -1,10 +1,7 @@
--- What each turn of the loop keeps: the items passed are taken, and there is room for the others.
-use lib.ListN.{take, drop}
+-- What each turn of the loop keeps.
 use Rattle.items.specs.Items.{letter}
-use Rattle.items.proofs.Items.{items}
+use Rattle.items.proofs.Items.{ItemsHead}
 use Rattle.items.proofs.put_letters.Given as goal
 
 abbrev pub invariant-loop-letter : goal.invariant-loop-letter
-invariant-loop-letter g l =
-    g.S.Sink.takes l.initial.sink (items letter (take l.letter-index l.letters)) l.sink
-    × g.S.Sink.has_room l.sink (items letter (drop l.letter-index l.letters))
+invariant-loop-letter g l = ItemsHead g.S.Sink.takes g.S.Sink.has_room letter l.letters l.initial.sink l.letter-index l.sink

@@ -1,10 +1,7 @@
--- What each turn of the loop keeps: the items passed are taken, and there is room for the others.
-use lib.ListN.{take, drop}
+-- What each turn of the loop keeps.
 use Rattle.items.specs.Digits.{decimal}
-use Rattle.items.proofs.Items.{items}
+use Rattle.items.proofs.Items.{ItemsHead}
 use Rattle.items.proofs.put_numbers.Given as goal
 
 abbrev pub invariant-loop-number : goal.invariant-loop-number
-invariant-loop-number g l =
-    g.S.Sink.takes l.initial.sink (items decimal (take l.number-index l.numbers)) l.sink
-    × g.S.Sink.has_room l.sink (items decimal (drop l.number-index l.numbers))
+invariant-loop-number g l = ItemsHead g.S.Sink.takes g.S.Sink.has_room decimal l.numbers l.initial.sink l.number-index l.sink
