@@ -71,7 +71,7 @@ impl From<NumberRefusal> for ReadRefusal {
     }
 }
 
-// A joint that was read, and the place after it.
+// A joint that was read, and the place after it: an answer has the next place, as a number's does, so places go on from part to part.
 #[derive(Clone, Copy)]
 pub struct Reading {
     pub joint: Joint,
