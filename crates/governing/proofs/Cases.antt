@@ -3,8 +3,9 @@
 use mathlib.Core.Path.{◌≡◌, refl, ap, ◌∙◌}
 use mathlib.Core.Bool.{Bool, true, false, cond}
 use Prim.Native.Nat.{ℕ, zero, suc, ◌+◌, ◌-◌, ◌^◌, ◌≤◌}
-use Rattle.std.proofs.Common.{Option, Some, None, SomeIff, w64}
-use Rattle.std.specs.Int.{FitsUnsigned}
+use Rattle.std.specs.Prelude.{Some, None, Result, Ok, Err, OkIff}
+use Rattle.std.specs.Int.{FitsUnsignedBits}
+use Rattle.std.specs.Result.{result_ok}
 use Rattle.std.proofs.lemmas.Int.{ints}
 use native.Mathlib.Omega.{arith}
 use lib.Dec.{ltb}
@@ -33,14 +34,19 @@ not_below_zero loads force h =
     size (negsuc n) k = absurd (omega (arith, ints))
 
 -- so the governing force less N, where it is a number of 64 bits with no sign, is the answer
-pub cap_found : (loads : Loads) (force : ℕ) (found : Option ℕ) → (pos force -ℤ loads.axial) <ℤ pos (2 ^ 64)
-    → SomeIff found (FitsUnsigned w64 (pos force -ℤ loads.axial)) (nat_abs (pos force -ℤ loads.axial)) → found ≡ cap_case loads force
-cap_found loads force None small unfit = below_zero loads force (negative (pos force -ℤ loads.axial) small unfit)
+pub cap_found : {E : Type 0} (loads : Loads) (force : ℕ) (found : Result ℕ E) → (pos force -ℤ loads.axial) <ℤ pos (2 ^ 64)
+    → OkIff found (FitsUnsignedBits 64 (pos force -ℤ loads.axial)) (nat_abs (pos force -ℤ loads.axial))
+    → result_ok found ≡ cap_case loads force
+cap_found loads force (Err e) small unfit = below_zero loads force (negative (pos force -ℤ loads.axial) small unfit)
   where
-    negative : (cap : ℤ) → cap <ℤ pos (2 ^ 64) → ¬ FitsUnsigned w64 cap → cap <ℤ pos 0
-    negative (pos n) small unfit = absurd (unfit (omega (arith, ints), small))
+    negative : (cap : ℤ) → cap <ℤ pos (2 ^ 64) → ¬ FitsUnsignedBits 64 cap → cap <ℤ pos 0
+    negative (pos n) small unfit = absurd (unfit (omega (arith, ints, small)))
     negative (negsuc n) small unfit = omega (arith, ints)
-cap_found loads force (Some cap) small fit = ap Some fit.1 ∙ not_below_zero loads force fit.0.0
+cap_found loads force (Ok cap) small fit = ap Some fit.1 ∙ not_below_zero loads force (positive (pos force -ℤ loads.axial) fit.0)
+  where
+    positive : (cap : ℤ) → FitsUnsignedBits 64 cap → pos 0 ≤ℤ cap
+    positive (pos n) fits = omega (arith, ints)
+    positive (negsuc n) fits = absurd fits
 
 pub exceeded : (loads : Loads) (force : ℕ) → None ≡ cap_case loads force → over_compressed loads force ≡ true
 unfolding cap_case

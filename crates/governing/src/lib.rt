@@ -65,5 +65,5 @@ pub fn tension_cap(force: u64, loads: Loads) -> Option<u64>
     requires { (force ≤ most_bearing) × LoadsInRange loads }
     ensures { result ≡ cap_case loads force }
 {
-    force.checked_sub_signed(i64::from(loads.axial))
+    u64::try_from(force.cast_signed() - i64::from(loads.axial)).ok()
 }
