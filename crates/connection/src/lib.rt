@@ -41,16 +41,16 @@ pub struct SharedParts {
 pub fn work_connection(
     panel_counts: bool,
     shared: &SharedParts,
-    face: Face,
+    face: &Face,
 ) -> Result<FaceResult, FaceRefusal>
     ensures equals { face_meaning result
-        ≡ worked_connection panel_counts shared.now.column shared.now.bolts shared.now.area face }
+        ≡ worked_connection panel_counts shared.now.column shared.now.bolts shared.now.area face.now }
     ensures demand { IfOk result
-        (λ worked. Demand3For panel_counts shared.now.column shared.now.bolts shared.now.area face worked) }
+        (λ worked. Demand3For panel_counts shared.now.column shared.now.bolts shared.now.area face.now worked) }
 {
-    joint::check_fields(shared.column, shared.bolts, shared.area, face)?;
+    joint::check_fields(shared.column, shared.bolts, shared.area, *face)?;
     let bolt = strength::bolt_strengths(shared.bolts, shared.area.unwrap_or(0));
-    FaceAtWork::new(&shared.column, bolt, &face).work(panel_counts)
+    FaceAtWork::new(&shared.column, bolt, face).work(panel_counts)
 }
 
 // A face in range on its column, with the figures of its bolts, and what is measured of it before it is admitted: the distances about its

@@ -26,7 +26,7 @@ use connection::SharedParts;
 use jointfile::FileKind;
 use outcome::JointRefusal;
 use words::joints::{JOINT_WORDS, JointWords, OneFaced};
-use words::results::{OUTCOME_WORDS, put_outcome};
+use words::results::{OUTCOME_WORDS, put_one_face, put_outcome};
 use words::tables::{TABLE_WORDS, TableWords};
 
 // The number of the old kind of file.
@@ -171,7 +171,7 @@ fn work_words(table: TableWords, fields: JointWords, res: &mut [u64]) -> Result<
         let joint = fields.joint();
         let area = table.lent().area_of(joint.bolts.diameter);
         let worked = work::work_with(area, joint)?;
-        put_outcome(&worked.result, &worked.second, res);
+        put_outcome(&worked, res);
         return Ok(());
     }
     let OneFaced {
@@ -185,9 +185,13 @@ fn work_words(table: TableWords, fields: JointWords, res: &mut [u64]) -> Result<
         bolts,
         area,
     };
-    let result = work::work_alone(&shared, face)?;
-    put_outcome(&result, &None, res);
-    Ok(())
+    match &work::work_alone(&shared, &face) {
+        Ok(result) => {
+            put_one_face(result, res);
+            Ok(())
+        }
+        Err(refused) => Err(*refused),
+    }
 }
 
 // Work, with the bolt table in force: the result's words go to the first places, and its forces are the best there are: demand 3.

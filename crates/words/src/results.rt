@@ -1,12 +1,12 @@
 // What a joint comes to, as words: those of its first face, those of its second, and the panel's.
-ghost use Rattle.std.specs.Prelude.{◌≡◌, ◌≤◌, length};
+ghost use Rattle.std.specs.Prelude.{◌≡◌, ◌≤◌, length, Ok, None};
 ghost use Rattle.buffers.specs.Put.{at_front};
 ghost use Rattle.outcome.specs.Outcome.{outcome_meaning, second_result};
 ghost use Rattle.words.specs.Results.{face_word_count, outcome_word_count, check_number, figure_words, result_words};
 ghost use Rattle.words.specs.Results.{outcome_words};
 
 use governing::CompressionCheck;
-use outcome::{FaceResult, SecondFace};
+use outcome::{FaceResult, Worked};
 
 // The words after the forces, all of a face's, and all of a joint's.
 const FIGURE_WORDS: usize = 9;
@@ -54,18 +54,28 @@ fn put_result(of_face: &FaceResult, words: &mut [u64])
     words[8..FACE_WORDS].copy_from_slice(&figures_of(of_face));
 }
 
-// Puts the words of what a joint comes to at the front of a slice: where there is no second face, 0 for it and for the panel. The faces
-// are handed over apart, so that of a joint with one face no room for a second is made. How many forces a face has is promised, since of an
-// array within an Option a caller isn't told.
-pub fn put_outcome(of_first: &FaceResult, second: &Option<SecondFace>, words: &mut [u64])
+// Puts the words of a joint's only face at the front of a slice, and 0 for a second face and for the panel. How many forces a face has is
+// promised here and below, since of a face behind a reference a caller isn't told.
+pub fn put_one_face(of_face: &FaceResult, words: &mut [u64])
     requires { outcome_word_count ≤ length words.old }
-    ensures forces_len { (length of_first.now.forces ≡ 8) × (length (second_result second.now).forces ≡ 8) }
-    ensures words_after { words.new ≡ at_front (outcome_words (outcome_meaning (Ok (record { result = of_first.now; second = second.now })))) words.old }
+    ensures forces_len { length of_face.now.forces ≡ 8 }
+    ensures words_after { words.new
+        ≡ at_front (outcome_words (outcome_meaning (Ok (record { result = of_face.now; second = None })))) words.old }
 {
-    put_result(of_first, &mut words[..FACE_WORDS]);
-    match second {
-        None => words[FACE_WORDS..OUTCOME_WORDS].fill(0),
+    put_result(of_face, &mut words[..FACE_WORDS]);
+    words[FACE_WORDS..OUTCOME_WORDS].fill(0);
+}
+
+// Puts the words of what a joint comes to at the front of a slice.
+pub fn put_outcome(worked: &Worked, words: &mut [u64])
+    requires { outcome_word_count ≤ length words.old }
+    ensures forces_len { (length worked.now.result.forces ≡ 8) × (length (second_result worked.now.second).forces ≡ 8) }
+    ensures words_after { words.new ≡ at_front (outcome_words (outcome_meaning (Ok worked.now))) words.old }
+{
+    match &worked.second {
+        None => put_one_face(&worked.result, words),
         Some(second) => {
+            put_result(&worked.result, &mut words[..FACE_WORDS]);
             put_result(&second.result, &mut words[FACE_WORDS..2 * FACE_WORDS]);
             words[2 * FACE_WORDS] = u64::from(second.panel_passes);
         }

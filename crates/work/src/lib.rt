@@ -32,17 +32,16 @@ pub fn work_with(area: Option<u32>, joint: Joint) -> Result<Worked, JointRefusal
     ensures equals { outcome_meaning result ≡ worked_with area joint }
     ensures demand { OnOk result (Demand3With area joint (outcome_meaning result)) }
 {
-    let face = joint.face;
     let shared = SharedParts {
         column: joint.column,
         bolts: joint.bolts,
         area,
     };
-    if joint::is_two_faced(face.rows) {
-        let first = joint::first_face(face);
-        return work_faces(&shared, first, joint.other);
+    if joint::is_two_faced(joint.face.rows) {
+        let first = joint::first_face(joint.face);
+        return work_faces(&shared, &first, &joint.other);
     }
-    let result = work_alone(&shared, face)?;
+    let result = work_alone(&shared, &joint.face)?;
     Ok(Worked {
         result,
         second: None,
@@ -51,21 +50,21 @@ pub fn work_with(area: Option<u32>, joint: Joint) -> Result<Worked, JointRefusal
 
 // The only face of a joint: panel shear counts in its cap, and a refusal tells no face. Open for the exported calls, which make nothing of a
 // second face.
-pub fn work_alone(shared: &SharedParts, face: Face) -> Result<FaceResult, JointRefusal>
+pub fn work_alone(shared: &SharedParts, face: &Face) -> Result<FaceResult, JointRefusal>
     ensures equals { alone_meaning result
-        ≡ of_one_face (worked_connection true shared.now.column shared.now.bolts shared.now.area face) }
+        ≡ of_one_face (worked_connection true shared.now.column shared.now.bolts shared.now.area face.now) }
     ensures demand { IfOk result
-        (λ worked. Demand3For true shared.now.column shared.now.bolts shared.now.area face worked) }
+        (λ worked. Demand3For true shared.now.column shared.now.bolts shared.now.area face.now worked) }
 {
     work_connection(true, shared, face).map_err(|why| why.on(RefusedFace::Only))
 }
 
 // Both faces, the first before the second. Panel shear counts in neither's cap.
-fn work_faces(shared: &SharedParts, first: Face, second: Face) -> Result<Worked, JointRefusal>
+fn work_faces(shared: &SharedParts, first: &Face, second: &Face) -> Result<Worked, JointRefusal>
     ensures equals { outcome_meaning result
-        ≡ worked_faces shared.now.column shared.now.bolts shared.now.area first second }
+        ≡ worked_faces shared.now.column shared.now.bolts shared.now.area first.now second.now }
     ensures demand { OnOk result
-        (FacesDemand3 shared.now.column shared.now.bolts shared.now.area first second (outcome_meaning result)) }
+        (FacesDemand3 shared.now.column shared.now.bolts shared.now.area first.now second.now (outcome_meaning result)) }
 {
     let one = work_connection(false, shared, first).map_err(|why| why.on(RefusedFace::First))?;
     let two = work_connection(false, shared, second).map_err(|why| why.on(RefusedFace::Second))?;

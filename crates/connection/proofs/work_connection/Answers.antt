@@ -20,7 +20,7 @@ unfolding worked_connection
 returns-in_err-check_fields-clause-equals c =
     let a = c.args.shared.now in
     let told : c.from_residual.result ≡ Err (OutOfRange c.in_err-check_fields.field-0.0.field) = search rules in
-    let face = worked_face c.args.panel_counts a.column (bolt_of a.bolts a.area) c.args.face in
+    let face = worked_face c.args.panel_counts a.column (bolt_of a.bolts a.area) c.args.face.now in
     ap face_meaning told ∙ ap (λ found. worked_by found face) (sym c.in_err-check_fields.was ∙ c.check_fields.ensures)
 
 figures : (c : After-bolt_strengths-bolt) → c.bolt_strengths-bolt.result ≡ bolt_of c.args.shared.now.bolts c.args.shared.now.area
@@ -30,7 +30,7 @@ pub new-requires : goal.new-requires
 new-requires c =
     let here = (goal.at.new-requires c).After-bolt_strengths-bolt in
     let a = c.args.shared.now in
-    let known = in_range a.column a.bolts a.area c.args.face (sym c.check_fields.ensures ∙ c.in_ok-check_fields.was) in
+    let known = in_range a.column a.bolts a.area c.args.face.now (sym c.check_fields.ensures ∙ c.in_ok-check_fields.was) in
     (known.column, rw (figures here) (bolt_in_range a.bolts a.area known.bolts a.area_in_range), known.face)
 
 pub returns : goal.returns
@@ -38,10 +38,10 @@ unfolding worked_connection
 returns c =
     let here = (goal.at.returns c).After-bolt_strengths-bolt in
     let a = c.args.shared.now in
-    let eight : length c.args.face.levers ≡ row_counts.high = search rules in
-    let work : BoltStrengths → FaceOutcome = λ bolt. worked_face c.args.panel_counts a.column bolt c.args.face in
+    let eight : length c.args.face.now.levers ≡ row_counts.high = search rules in
+    let work : BoltStrengths → FaceOutcome = λ bolt. worked_face c.args.panel_counts a.column bolt c.args.face.now in
     let own : worked_face c.args.panel_counts c.new.result.column.now c.new.result.bolt c.new.result.face.now ≡ work (bolt_of a.bolts a.area) =
     λ i. worked_face c.args.panel_counts (c.new.ensures.0 i) ((c.new.ensures.1 ∙ figures here) i) (c.new.ensures.2 i) in
     let equals = c.work.ensures ∙ own
     ∙ ap (λ found. worked_by found (work (bolt_of a.bolts a.area))) (sym c.in_ok-check_fields.was ∙ c.check_fields.ensures) in
-    record { equals = equals; demand = demand_of c.args.panel_counts a.column a.bolts a.area c.args.face eight _ equals }
+    record { equals = equals; demand = demand_of c.args.panel_counts a.column a.bolts a.area c.args.face.now eight _ equals }

@@ -34,35 +34,32 @@ alone c = sym c.is_two_faced.ensures ∙ c.if-is_two_faced.false
 listed : (c : After-area_of-area-2) → c.area_of-area-2.result ≡ area_of (table_of_words c.args.table.words.now) c.one_faced.result.bolts.diameter
 listed c = rw c.lent-2.ensures at c.area_of-area-2.ensures
 
-pub returns-in_err-result-clause-equals : goal.returns-in_err-result-clause-equals
-returns-in_err-result-clause-equals c =
-    let here = (goal.at.returns-in_err-result-clause-equals c).After-area_of-area-2 in
-    let told : c.from_residual-in_err-result.result ≡ Err c.in_err-result.field-0.0 = search rules in
-    rw told (
+pub returns-in-Err-clause-equals : goal.returns-in-Err-clause-equals
+returns-in-Err-clause-equals c =
+    let here = (goal.at.returns-in-Err-clause-equals c).After-area_of-area-2 in (
       alone_is (table_of_words c.args.table.words.now) (joint_of_words c.args.fields.words.now)
           (alone here) c.one_faced.ensures (listed here)
-          c.in_err-result.ensures.equals,
+          (rw c.in-Err.is at c.work_alone.ensures.equals),
       refl,
     )
 
-pub returns-clause-equals : goal.returns-clause-equals
-returns-clause-equals c =
-    let here = (goal.at.returns-clause-equals c).After-area_of-area-2 in
+pub returns-in-Ok-clause-equals : goal.returns-in-Ok-clause-equals
+returns-in-Ok-clause-equals c =
+    let here = (goal.at.returns-in-Ok-clause-equals c).After-area_of-area-2 in
     let is = alone_is (table_of_words c.args.table.words.now) (joint_of_words c.args.fields.words.now) (alone here)
-    c.one_faced.ensures (listed here) c.in_ok-result.ensures.equals
+    c.one_faced.ensures (listed here) (rw c.in-Ok.is at c.work_alone.ensures.equals)
     in (
       sym (ap (λ (o : Outcome). o.refusal.number) is),
-      c.put_outcome-2.ensures.words_after ∙ ap (λ (o : Outcome). at_front (outcome_words o) c.args.res.now) is,
+      c.put_one_face.ensures.words_after ∙ ap (λ (o : Outcome). at_front (outcome_words o) c.args.res.now) is,
     )
 
-pub returns-clause-demand : goal.returns-clause-demand
-returns-clause-demand c =
-    let here = (goal.at.returns-clause-demand c).After-area_of-area-2 in
+pub returns-in-Ok-clause-demand : goal.returns-in-Ok-clause-demand
+returns-in-Ok-clause-demand c =
+    let here = (goal.at.returns-in-Ok-clause-demand c).After-area_of-area-2 in
     let table = table_of_words c.args.table.words.now in
     let joint = joint_of_words c.args.fields.words.now in
-    let outcome = alone_meaning (Ok c.in_ok-result.result) in
-    let eight = c.put_outcome-2.ensures.forces_len in
-    rw c.put_outcome-2.ensures.words_after
-    (demand_words c.args.res.now table joint outcome eight.0 eight.1
+    let outcome = alone_meaning (Ok c.in-Ok.result) in
+    rw c.put_one_face.ensures.words_after
+    (demand_words c.args.res.now table joint outcome c.put_one_face.ensures.forces_len refl
     (alone_demand table joint (alone here) c.one_faced.ensures (listed here) outcome
-    c.in_ok-result.ensures.demand))
+    (rw c.in-Ok.is at c.work_alone.ensures.demand)))

@@ -12,13 +12,13 @@ use Rattle.work.proofs.work_faces.Goals.{In_ok-one, In_ok-two}
 
 -- the first face is worked, and the second
 one_worked : (c : In_ok-one)
-    → let a = c.args.shared.now in face_meaning (Ok c.in_ok-one.one) ≡ worked_connection false a.column a.bolts a.area c.args.first
+    → let a = c.args.shared.now in face_meaning (Ok c.in_ok-one.one) ≡ worked_connection false a.column a.bolts a.area c.args.first.now
 one_worked c =
     let answer : c.work_connection.result ≡ Ok c.in_ok-one.one = search rules in
     ap face_meaning (sym answer) ∙ c.work_connection.ensures.equals
 
 two_worked : (c : In_ok-two)
-    → let a = c.args.shared.now in face_meaning (Ok c.in_ok-two.two) ≡ worked_connection false a.column a.bolts a.area c.args.second
+    → let a = c.args.shared.now in face_meaning (Ok c.in_ok-two.two) ≡ worked_connection false a.column a.bolts a.area c.args.second.now
 two_worked c =
     let answer : c.work_connection-2.result ≡ Ok c.in_ok-two.two = search rules in
     ap face_meaning (sym answer) ∙ c.work_connection-2.ensures.equals
@@ -30,7 +30,7 @@ returns-in_err-one-clause-equals c =
     let told : c.from_residual.result ≡ Err (record { refusal = refusal; face = First }) = search rules in
     let answer : c.work_connection.result ≡ Err refusal = search rules in
     ap outcome_meaning told
-    ∙ first_refused a.column a.bolts a.area c.args.first c.args.second refusal (ap face_meaning (sym answer) ∙ c.work_connection.ensures.equals)
+    ∙ first_refused a.column a.bolts a.area c.args.first.now c.args.second.now refusal (ap face_meaning (sym answer) ∙ c.work_connection.ensures.equals)
 
 pub returns-in_err-two-clause-equals : goal.returns-in_err-two-clause-equals
 returns-in_err-two-clause-equals c =
@@ -40,15 +40,15 @@ returns-in_err-two-clause-equals c =
     let told : c.from_residual-in_err-two.result ≡ Err (record { refusal = refusal; face = Second }) = search rules in
     let answer : c.work_connection-2.result ≡ Err refusal = search rules in
     ap outcome_meaning told
-    ∙ second_refused a.column a.bolts a.area c.args.first c.args.second c.in_ok-one.one (one_worked here) refusal
+    ∙ second_refused a.column a.bolts a.area c.args.first.now c.args.second.now c.in_ok-one.one (one_worked here) refusal
     (ap face_meaning (sym answer) ∙ c.work_connection-2.ensures.equals)
 
 pub panel_passes-panel_passes-requires : goal.panel_passes-panel_passes-requires
 panel_passes-panel_passes-requires c =
     let here = goal.at.panel_passes-panel_passes-requires c in
     let a = c.args.shared.now in
-    let first = taken false a.column a.bolts a.area c.args.first (face_meaning (Ok c.in_ok-one.one)) (sym (one_worked here.In_ok-one)) refl in
-    let second = taken false a.column a.bolts a.area c.args.second (face_meaning (Ok c.in_ok-two.two)) (sym (two_worked here.In_ok-two)) refl in (
+    let first = taken false a.column a.bolts a.area c.args.first.now (face_meaning (Ok c.in_ok-one.one)) (sym (one_worked here.In_ok-one)) refl in
+    let second = taken false a.column a.bolts a.area c.args.second.now (face_meaning (Ok c.in_ok-two.two)) (sym (two_worked here.In_ok-two)) refl in (
       first.0.column,
       record {
         first_small = first.1;
@@ -71,7 +71,7 @@ returns c =
         other = c.in_ok-two.two;
         panel = c.panel_passes-panel_passes.ensures i;
       })
-          ∙ both_worked a.column a.bolts a.area c.args.first c.args.second c.in_ok-one.one (one_worked here.In_ok-one) c.in_ok-two.two
+          ∙ both_worked a.column a.bolts a.area c.args.first.now c.args.second.now c.in_ok-one.one (one_worked here.In_ok-one) c.in_ok-two.two
           (two_worked here.In_ok-two);
       demand = record { of_first = rw one at c.work_connection.ensures.demand; of_second = rw two at c.work_connection-2.ensures.demand };
     }
