@@ -9,7 +9,8 @@
 // The sheet's refusals are its lines: they are printed, `R 4` too, and answered 0.
 #![tactic(auto)]
 
-ghost use Rattle.std.specs.Prelude.{◌≡◌, ◌≤◌, length, take, OnOk};
+ghost use Rattle.std.specs.Prelude.{◌≡◌, ◌≤◌, false, length, take, OnOk};
+ghost use Rattle.joint.specs.Faces.{two_faced};
 ghost use Rattle.jointfile.specs.File.{reading};
 ghost use Rattle.sharing.specs.Groups.{listed};
 ghost use Rattle.sharing.specs.Best.{Best};
@@ -22,9 +23,9 @@ ghost use Rattle.exports.specs.Answers.{answer_number, answers};
 ghost use Rattle.exports.specs.Calls.{allocating, kind_of, reading_into, writing_into, built_in_into, loading_into, working_into};
 ghost use Rattle.exports.specs.Calls.{WordsPut, Demand3OfWords, sheeting_into};
 
-use connection::SharedParts;
+use connection::{SharedParts, work_connection};
 use jointfile::FileKind;
-use outcome::JointRefusal;
+use outcome::{JointRefusal, RefusedFace};
 use words::joints::{JOINT_WORDS, JointWords, OneFaced};
 use words::results::{OUTCOME_WORDS, put_one_face, put_outcome};
 use words::tables::{TABLE_WORDS, TableWords};
@@ -158,8 +159,7 @@ fn answer_of(refused: JointRefusal) -> u32
     refused.number() + 256 * refused.field() + 65536 * refused.face()
 }
 
-// Works a joint's words with a table's, and puts the words of what they come to. Of a joint with one face nothing of a second is made: that
-// would take a sixth of the time of one bolt row.
+// Works a joint's words with a table's, and puts the words of what they come to.
 fn work_words(table: TableWords, fields: JointWords, res: &mut [u64]) -> Result<(), JointRefusal>
     requires { outcome_word_count ≤ length res.old }
     ensures equals { WordsPut result
@@ -168,12 +168,41 @@ fn work_words(table: TableWords, fields: JointWords, res: &mut [u64]) -> Result<
         (Demand3OfWords (table_of_words table.entry.words.now) (joint_of_words fields.entry.words.now) res.new) }
 {
     if fields.is_two_faced() {
-        let joint = fields.joint();
-        let area = table.lent().area_of(joint.bolts.diameter);
-        let worked = work::work_with(area, joint)?;
-        put_outcome(&worked, res);
-        return Ok(());
+        work_joint(table, fields, res)
+    } else {
+        work_only_face(table, fields, res)
     }
+}
+
+// Works any joint's words.
+fn work_joint(table: TableWords, fields: JointWords, res: &mut [u64]) -> Result<(), JointRefusal>
+    requires { outcome_word_count ≤ length res.old }
+    ensures equals { WordsPut result
+        (worked (table_of_words table.entry.words.now) (joint_of_words fields.entry.words.now)) res.old res.new }
+    ensures demand { OnOk result
+        (Demand3OfWords (table_of_words table.entry.words.now) (joint_of_words fields.entry.words.now) res.new) }
+{
+    let joint = fields.joint();
+    let area = table.lent().area_of(joint.bolts.diameter);
+    let worked = work::work_with(area, joint)?;
+    put_outcome(&worked, res);
+    Ok(())
+}
+
+// Works the words of a joint with one face: nothing of a second is made, which would take a sixth of the time of one bolt row. Panel shear
+// counts in the cap.
+fn work_only_face(
+    table: TableWords,
+    fields: JointWords,
+    res: &mut [u64],
+) -> Result<(), JointRefusal>
+    requires room { outcome_word_count ≤ length res.old }
+    requires alone { two_faced (joint_of_words fields.words.now).face.rows ≡ false }
+    ensures equals { WordsPut result
+        (worked (table_of_words table.entry.words.now) (joint_of_words fields.entry.words.now)) res.old res.new }
+    ensures demand { OnOk result
+        (Demand3OfWords (table_of_words table.entry.words.now) (joint_of_words fields.entry.words.now) res.new) }
+{
     let OneFaced {
         column,
         bolts,
@@ -185,12 +214,12 @@ fn work_words(table: TableWords, fields: JointWords, res: &mut [u64]) -> Result<
         bolts,
         area,
     };
-    match &work::work_alone(&shared, &face) {
+    match &work_connection(true, &shared, &face) {
         Ok(result) => {
             put_one_face(result, res);
             Ok(())
         }
-        Err(refused) => Err(*refused),
+        Err(why) => Err(why.on(RefusedFace::Only)),
     }
 }
 

@@ -40,11 +40,6 @@ of_one_face outcome = record {
   panel = NotAsked;
 }
 
--- what an answer for the only face says of its joint
-abbrev pub alone_meaning : Result FaceResult JointRefusal → Outcome
-alone_meaning (Ok result) = outcome_meaning (Ok (record { result = result; second = None }))
-alone_meaning (Err refused) = outcome_meaning (Err refused)
-
 -- rule 11.9: what comes of a face that may be refused, its number told with the refusal; and else what comes after it
 abbrev pub if_taken : (face : ℕ) → FaceOutcome → (FaceResult → Outcome) → Outcome
 if_taken face outcome next =

@@ -2,20 +2,18 @@
 // shared column and bolts, whose area comes from the bolt table in force; of two, the panel between them is judged.
 #![tactic(auto)]
 
-ghost use Rattle.std.specs.Prelude.{◌≡◌, true, cond, IfOk, OnOk};
+ghost use Rattle.std.specs.Prelude.{◌≡◌, cond, OnOk};
 ghost use Rattle.bolttable.specs.InRange.{AreaInRange};
 ghost use Rattle.joint.specs.InRange.{ColumnInRange};
-ghost use Rattle.connection.specs.Connection.{worked_connection};
-ghost use Rattle.connection.specs.Demand.{Demand3For};
 ghost use Rattle.outcome.specs.Outcome.{Passes, Fails, outcome_meaning};
 ghost use Rattle.panel.specs.Asked.{PanelAsked};
-ghost use Rattle.work.specs.Work.{panel_verdict, of_one_face, alone_meaning, worked_faces, worked_with, worked};
+ghost use Rattle.work.specs.Work.{panel_verdict, worked_faces, worked_with, worked};
 ghost use Rattle.work.specs.Demand.{FacesDemand3, Demand3With, Demand3Of};
 
 use bolttable::BoltTable;
 use connection::{SharedParts, work_connection};
 use joint::{Column, Face, Joint, Loads};
-use outcome::{FaceResult, JointRefusal, RefusedFace, SecondFace, Worked};
+use outcome::{JointRefusal, RefusedFace, SecondFace, Worked};
 
 // Works any joint with any bolt table in force: the whole result, or the first refusal in their order that holds. The row forces are the
 // best there are: demand 3, in specs/Demand.antt. Of a joint with one face nothing of a second is looked at.
@@ -41,22 +39,13 @@ pub fn work_with(area: Option<u32>, joint: Joint) -> Result<Worked, JointRefusal
         let first = joint::first_face(joint.face);
         return work_faces(&shared, &first, &joint.other);
     }
-    let result = work_alone(&shared, &joint.face)?;
-    Ok(Worked {
-        result,
-        second: None,
-    })
-}
-
-// The only face of a joint: panel shear counts in its cap, and a refusal tells no face. Open for the exported calls, which make nothing of a
-// second face.
-pub fn work_alone(shared: &SharedParts, face: &Face) -> Result<FaceResult, JointRefusal>
-    ensures equals { alone_meaning result
-        ≡ of_one_face (worked_connection true shared.now.column shared.now.bolts shared.now.area face.now) }
-    ensures demand { IfOk result
-        (λ worked. Demand3For true shared.now.column shared.now.bolts shared.now.area face.now worked) }
-{
-    work_connection(true, shared, face).map_err(|why| why.on(RefusedFace::Only))
+    match work_connection(true, &shared, &joint.face) {
+        Ok(result) => Ok(Worked {
+            result,
+            second: None,
+        }),
+        Err(why) => Err(why.on(RefusedFace::Only)),
+    }
 }
 
 // Both faces, the first before the second. Panel shear counts in neither's cap.
