@@ -1,5 +1,5 @@
 -- Working a joint (rules 11): a face on its own, or two of them and the panel between them. Assumes nothing.
-use Rattle.std.specs.Prelude.{ℕ, true, false, cond, eqb, Option, None, Result, Ok, Err}
+use Rattle.std.specs.Prelude.{ℕ, true, false, cond, eqb, Option}
 use Rattle.bolttable.specs.Area.{area_of}
 use Rattle.bolttable.specs.declared.BoltTable.{BoltTable}
 use Rattle.joint.specs.Faces.{two_faced, first_face}
@@ -12,9 +12,8 @@ use Rattle.strength.specs.Steel.{steel_strength}
 use Rattle.compression.specs.Compression.{panel_shear}
 use Rattle.panel.specs.Panel.{governing_total, panel_passes}
 use Rattle.connection.specs.Connection.{worked_connection}
-use Rattle.outcome.specs.Outcome.{FaceOutcome, Outcome, PanelVerdict, NotAsked, Passes, Fails, no_result, outcome_meaning}
+use Rattle.outcome.specs.Outcome.{FaceOutcome, Outcome, PanelVerdict, NotAsked, Passes, Fails, no_result}
 use Rattle.outcome.specs.declared.FaceResult.{FaceResult}
-use Rattle.outcome.specs.declared.JointRefusal.{JointRefusal}
 
 -- rule 8.6: the panel's verdict, by the sums of forces and the loads of the two faces
 unfoldable pub panel_verdict : Column → (first_sum : ℕ) (first : Loads) (second_sum : ℕ) (second : Loads) → PanelVerdict

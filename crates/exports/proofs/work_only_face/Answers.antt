@@ -1,10 +1,9 @@
 -- `work_only_face` meets its contract: the area is that which the table lists, and what the face's connection comes to is what Work comes
 -- to. Assumes nothing.
-use Rattle.std.proofs.Common.{◌≡◌, Ok, Err, sym, ap, refl, ◌∙◌, false}
+use Rattle.std.proofs.Common.{◌≡◌, Ok, sym, ap, refl, ◌∙◌}
 use Rattle.bolttable.proofs.Areas.{area_in_range}
 use Rattle.buffers.specs.Put.{at_front}
-use Rattle.joint.specs.Faces.{two_faced}
-use Rattle.outcome.specs.Outcome.{Outcome, face_meaning, outcome_meaning}
+use Rattle.outcome.specs.Outcome.{Outcome, face_meaning}
 use Rattle.work.specs.Work.{of_one_face, worked}
 use Rattle.words.specs.Results.{outcome_words}
 use Rattle.words.specs.Tables.{table_of_words}
@@ -23,9 +22,9 @@ is_worked c =
 
 pub returns-in-Err-clause-equals : goal.returns-in-Err-clause-equals
 returns-in-Err-clause-equals c = (
-      rw c.on.ensures (ap of_one_face (ap face_meaning (sym c.in-Err.is)) ∙ is_worked (goal.at.returns-in-Err-clause-equals c).After-work_connection),
-      refl,
-    )
+  rw c.on.ensures (ap of_one_face (ap face_meaning (sym c.in-Err.is)) ∙ is_worked (goal.at.returns-in-Err-clause-equals c).After-work_connection),
+  refl,
+)
 
 pub returns-in-Ok-clause-equals : goal.returns-in-Ok-clause-equals
 returns-in-Ok-clause-equals c =

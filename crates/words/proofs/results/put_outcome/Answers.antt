@@ -1,6 +1,6 @@
 -- `results::put_outcome` meets its contract: of two faces the words of the first are put first, then those of the second, and the panel's.
 -- Assumes nothing.
-use Rattle.std.proofs.Common.{ℕ, ◌≡◌, List, [], ◌∷◌, ◌++◌, length, length-take-le, refl, sym, ap, ◌∙◌, rules, arith}
+use Rattle.std.proofs.Common.{ℕ, [], ◌∷◌, ◌++◌, length-take-le, refl, ap, ◌∙◌, rules, arith}
 use Rattle.buffers.specs.Put.{at_front}
 use Rattle.words.specs.Results.{result_words}
 use Rattle.words.proofs.Copies.{first_run, put_after, word_after}
