@@ -1,12 +1,13 @@
 // A joint as words, and back. Field k of the first face stands at place k - 1, and its levers follow; then come the fields that a second
 // face has of its own, and its levers.
-ghost use Rattle.std.specs.Prelude.{◌≡◌, ◌≤◌, ◌<◌, length, MatchOption};
+ghost use Rattle.std.specs.Prelude.{◌≡◌, ◌≤◌, length};
 ghost use Rattle.buffers.specs.Put.{at_front};
 ghost use Rattle.joint.specs.Faces.{two_faced};
 ghost use Rattle.fields.specs.Fields.{stored_axial};
 ghost use Rattle.words.specs.Words.{joint_word_count, axial_of_word};
 ghost use Rattle.words.specs.Words.{first_fields_of_words, own_fields_of_words, joint_of_words, head_of, words_of};
 
+use crate::lent::LentWords;
 use fields::{FIELD_COUNT, OWN_COUNT};
 use joint::{Bolts, Column, Face, Joint};
 
@@ -38,24 +39,10 @@ pub struct OneFaced {
     pub face: Face,
 }
 
-// The words of a joint, and maybe more after them.
-#[derive(Clone, Copy)]
-pub struct JointWords<'a> {
-    pub words: &'a [u32],
-    ghost enough: { joint_word_count ≤ length words.now },
-}
+// The words of a joint.
+pub type JointWords<'a> = LentWords<'a, JOINT_WORDS>;
 
-impl<'a> JointWords<'a> {
-    // Where there are as many words as a joint has.
-    pub fn of(words: &'a [u32]) -> Option<JointWords<'a>>
-        ensures { MatchOption result (length words.now < joint_word_count) (λ joint. joint.words.now ≡ words.now) }
-    {
-        if words.len() < JOINT_WORDS {
-            return None;
-        }
-        Some(JointWords { words })
-    }
-
+impl JointWords<'_> {
     pub fn joint(self) -> Joint
         ensures { result ≡ joint_of_words self.entry.words.now }
     {

@@ -4,5 +4,6 @@
 #![tactic(auto)]
 
 pub mod joints;
+pub mod lent;
 pub mod results;
 pub mod tables;

@@ -1,9 +1,10 @@
 // A bolt table as words, and back: its count, its twelve diameters and its twelve areas.
-ghost use Rattle.std.specs.Prelude.{◌≡◌, ◌≤◌, ◌<◌, length, MatchOption};
+ghost use Rattle.std.specs.Prelude.{◌≡◌, ◌≤◌, length};
 ghost use Rattle.bolttable.specs.Lent.{table_of};
 ghost use Rattle.buffers.specs.Put.{at_front};
 ghost use Rattle.words.specs.Tables.{table_word_count, table_of_words, words_of_table};
 
+use crate::lent::LentWords;
 use bolttable::{BoltTable, LentTable, PLACES};
 
 // How many words a table is, and where its areas begin.
@@ -11,24 +12,10 @@ pub const TABLE_WORDS: usize = AREAS + PLACES;
 
 const AREAS: usize = 1 + PLACES;
 
-// The words of a table, and maybe more after them.
-#[derive(Clone, Copy)]
-pub struct TableWords<'a> {
-    pub words: &'a [u32],
-    ghost enough: { table_word_count ≤ length words.now },
-}
+// The words of a table.
+pub type TableWords<'a> = LentWords<'a, TABLE_WORDS>;
 
 impl<'a> TableWords<'a> {
-    // Where there are as many words as a table has.
-    pub fn of(words: &'a [u32]) -> Option<TableWords<'a>>
-        ensures { MatchOption result (length words.now < table_word_count) (λ table. table.words.now ≡ words.now) }
-    {
-        if words.len() < TABLE_WORDS {
-            return None;
-        }
-        Some(TableWords { words })
-    }
-
     pub fn table(self) -> BoltTable
         ensures { result ≡ table_of_words self.entry.words.now }
     {
