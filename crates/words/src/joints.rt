@@ -1,11 +1,11 @@
 // A joint as words, and back. Field k of the first face stands at place k - 1, and its levers follow; then come the fields that a second
 // face has of its own, and its levers.
-ghost use Rattle.std.specs.Prelude.{◌≡◌, ◌≤◌, length};
+ghost use Rattle.std.specs.Prelude.{◌≡◌, ◌≤◌, ◌<◌, ◌+◌, length};
 ghost use Rattle.buffers.specs.Put.{at_front};
 ghost use Rattle.joint.specs.Faces.{two_faced};
 ghost use Rattle.fields.specs.Fields.{stored_axial};
 ghost use Rattle.words.specs.Words.{joint_word_count, axial_of_word};
-ghost use Rattle.words.specs.Words.{first_fields_of_words, own_fields_of_words, joint_of_words, head_of, words_of};
+ghost use Rattle.words.specs.Words.{words_from, fields_of_words, joint_of_words, head_of, words_of};
 
 use crate::lent::LentWords;
 use fields::{FIELD_COUNT, OWN_COUNT};
@@ -48,9 +48,9 @@ impl JointWords<'_> {
     {
         let words = self.words;
         fields::joint_of(
-            self.first_fields(),
+            self.fields(0, AXIAL),
             words[FIELD_COUNT..FIRST_WORDS].try_into().unwrap(),
-            self.own_fields(),
+            self.fields(FIRST_WORDS, OWN_AXIAL),
             words[OTHER_LEVERS..JOINT_WORDS].try_into().unwrap(),
         )
     }
@@ -67,7 +67,7 @@ impl JointWords<'_> {
         ensures { let joint = joint_of_words self.entry.words.now in
             (result.column ≡ joint.column) × (result.bolts ≡ joint.bolts) × (result.face ≡ joint.face) }
     {
-        let fields = self.first_fields();
+        let fields = self.fields::<FIELD_COUNT>(0, AXIAL);
         let words = self.words;
         OneFaced {
             column: fields::column_of(&fields),
@@ -79,22 +79,14 @@ impl JointWords<'_> {
         }
     }
 
-    // Fields 1 to 30 as the file stores them.
-    fn first_fields(self) -> [u32; FIELD_COUNT]
-        ensures { result ≡ first_fields_of_words self.entry.words.now }
+    // Fields as the file stores them, from the word at a place on: among them N has its place.
+    fn fields<const COUNT: usize>(self, from: usize, axial: usize) -> [u32; COUNT]
+        requires { (from + COUNT ≤ joint_word_count) × (axial < COUNT) }
+        ensures { result ≡ fields_of_words axial (words_from from COUNT self.entry.words.now) }
     {
-        let mut fields: [u32; FIELD_COUNT] = self.words[..FIELD_COUNT].try_into().unwrap();
-        fields[AXIAL] = stored_of(fields[AXIAL]);
+        let mut fields: [u32; COUNT] = self.words[from..from + COUNT].try_into().unwrap();
+        fields[axial] = stored_of(fields[axial]);
         fields
-    }
-
-    // Those that a second face has of its own.
-    fn own_fields(self) -> [u32; OWN_COUNT]
-        ensures { result ≡ own_fields_of_words self.entry.words.now }
-    {
-        let mut own: [u32; OWN_COUNT] = self.words[FIRST_WORDS..OTHER_LEVERS].try_into().unwrap();
-        own[OWN_AXIAL] = stored_of(own[OWN_AXIAL]);
-        own
     }
 }
 

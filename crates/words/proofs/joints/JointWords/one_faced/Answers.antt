@@ -7,7 +7,7 @@ use Rattle.words.proofs.joints.JointWords.one_faced.Goals as goal
 pub returns : goal.returns
 unfolding joint_of
 returns c =
-    let fields = c.first_fields-fields.ensures in
+    let fields = c.fields-fields.ensures in
     let levers = part_is _ _ _ _ c.try_into.ensures.1 c.unwrap.ensures in (
       c.column_of.ensures ∙ ap column_of fields,
       c.bolts_of.ensures ∙ ap bolts_of fields,
