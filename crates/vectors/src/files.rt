@@ -31,7 +31,8 @@ fn read_numbers(file: &[u8], kind: FileKind) -> [u64; READ_NUMBERS] {
 pub fn run_read(items: &mut Items, kind: FileKind) -> Result<(), Difference> {
     let file = items.bytes()?;
     items.equals()?;
-    let answer = items.answer()?;
+    let answer = items.numbers();
+    items.end()?;
     let should = in_long_form::<READ_NUMBERS>(&answer, SHORT_JOINT + 2)?;
     let numbers = read_numbers(&file, kind);
     compare(&numbers, &should)?;
@@ -51,7 +52,8 @@ fn written_numbers(joint: [u32; JOINT_WORDS], buffer: &mut [u8]) -> [u64; 2] {
 
 // Writes the joint to a buffer of the size that comes after it, each byte 165 before the call, in hexadecimal a5.
 pub fn run_write(items: &mut Items) -> Result<(), Difference> {
-    let given = items.given()?;
+    let given = items.numbers();
+    items.equals()?;
     let (size, joint) = given.split_last().ok_or(Difference::Unreadable)?;
     let joint = joint_words(joint)?;
     let refusal = items.number().ok_or(Difference::Unreadable)?;

@@ -75,7 +75,7 @@ impl<'a> Items<'a> {
     }
 
     // The numbers that stand next, as many as there are and have a place.
-    fn numbers(&mut self) -> Numbers {
+    pub fn numbers(&mut self) -> Numbers {
         let mut numbers = Numbers::new();
         for _ in 0..numbers.capacity() {
             let mut ahead = *self;
@@ -90,24 +90,12 @@ impl<'a> Items<'a> {
         numbers
     }
 
-    // The numbers up to a line's ` =`.
-    pub fn given(&mut self) -> Result<Numbers, Difference> {
-        let given = self.numbers();
-        self.equals()?;
-        Ok(given)
-    }
-
-    // The numbers to a line's end.
-    pub fn answer(&mut self) -> Result<Numbers, Difference> {
-        let answer = self.numbers();
-        self.end()?;
-        Ok(answer)
-    }
-
     // The numbers of a line that has nothing else on either side.
     pub fn sides(&mut self) -> Result<Sides, Difference> {
-        let given = self.given()?;
-        let answer = self.answer()?;
+        let given = self.numbers();
+        self.equals()?;
+        let answer = self.numbers();
+        self.end()?;
         Ok(Sides { given, answer })
     }
 
