@@ -2,12 +2,11 @@
 // verdicts. Rows count from 0.
 #![tactic(auto)]
 
-ghost use Rattle.std.specs.Prelude.{◌≡◌, Bool, ℕ, ◌≤◌, get_or, take, length, IfOk, OnOk};
+ghost use Rattle.std.specs.Prelude.{◌≡◌, Bool, ℕ, ◌≤◌, get_or, take, IfOk, OnOk};
 ghost use Rattle.arithmetic.specs.Checks.{first_failing, checks_before};
 ghost use Rattle.bolttable.specs.InRange.{AreaInRange};
 ghost use Rattle.joint.specs.InRange.{ColumnInRange, FaceInRange};
 ghost use Rattle.joint.specs.Places.{eight_places};
-ghost use Rattle.joint.specs.Ranges.{row_counts};
 ghost use Rattle.compression.specs.InRange.{most_bearing};
 ghost use Rattle.governing.specs.Governing.{force_of};
 ghost use Rattle.outcome.specs.Outcome.{FaceOutcome, face_meaning};
@@ -49,6 +48,7 @@ pub fn work_connection(
         (λ worked. Demand3For panel_counts shared.now.column shared.now.bolts shared.now.area face.now worked) }
 {
     joint::check_fields(shared.column, shared.bolts, shared.area, *face)?;
+    // The table lists an area: field 4 was in range.
     let bolt = strength::bolt_strengths(shared.bolts, shared.area.unwrap_or(0));
     FaceAtWork::new(&shared.column, bolt, face).work(panel_counts)
 }

@@ -189,7 +189,7 @@ fn work_joint(table: TableWords, fields: JointWords, res: &mut [u64]) -> Result<
     Ok(())
 }
 
-// Works the words of a joint with one face: nothing of a second is made, which would take a sixth of the time of one bolt row. Panel shear
+// Works the words of a joint with one face: nothing of a second is made, which would take a tenth of the time of one bolt row. Panel shear
 // counts in the cap.
 fn work_only_face(
     table: TableWords,

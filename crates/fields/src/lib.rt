@@ -148,8 +148,7 @@ impl FacePart<'_> {
 }
 
 // The first face among fields 1 to 30, with its levers.
-pub fn first_face_of(fields: &[u32], levers: [u32; 8]) -> Face
-    requires { field_count ≤ length fields.now }
+pub fn first_face_of(fields: &[u32; FIELD_COUNT], levers: [u32; 8]) -> Face
     ensures { result ≡ first_face_of fields.now levers }
 {
     FacePart {

@@ -5,7 +5,7 @@
 
 mod number;
 
-ghost use Rattle.std.specs.Prelude.{◌≡◌, map, ◌∷◌, [], ◌++◌, length, ℕ, List};
+ghost use Rattle.std.specs.Prelude.{map, ◌∷◌, [], ◌++◌, length, ℕ, List};
 ghost use Rattle.buffers.specs.Writing.{Puts, HasRoom};
 ghost use Rattle.buffers.proofs.Writers.{puts_both, puts_none, has_room_first, has_room_after};
 ghost use Rattle.items.specs.Digits.{decimal};

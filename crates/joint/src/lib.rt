@@ -215,7 +215,7 @@ fn in_range(field: u32, value: u32, low: u32, high: u32) -> Result<(), OutOfRang
 fn is_grade(field: u32, grade: u32) -> Result<(), OutOfRange>
     ensures { result ≡ found_by ((field, one_of grades grade) ∷ []) }
 {
-    holds(field, (grade == 275) | (grade == 355))
+    holds(field, matches!(grade, 275 | 355))
 }
 
 // Fields 1 to 4.
@@ -225,7 +225,7 @@ fn check_head(rows: u32, extended: u32, class: u32, area: Option<u32>) -> Result
 {
     in_range(1, rows, 1, 8)?;
     in_range(2, extended, 0, 1)?;
-    holds(3, (class == 46) | (class == 88) | (class == 109))?;
+    holds(3, matches!(class, 46 | 88 | 109))?;
     holds(4, area.is_some())
 }
 

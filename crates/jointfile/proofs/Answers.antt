@@ -94,20 +94,19 @@ pub refused_by : (end : ℕ) {r : ℕ} {parse : Parse Joint} {Told : ReadRefusal
 refused_by end (Ok read) none number stops = absurd none
 refused_by end (Err refusal) told number stops = rw (stops, number refusal told)
 
+others_long : (xs : List ℕ) → suc (length xs) - 1 ≡ length xs
+others_long xs = omega arith
+
 -- the places of a part's fields, of which the first has the count and the others are lent
 pub lent_others : (fields : List ℕ) (count : ℕ) → 1 ≤ length fields
     → length (take (length (set fields 0 count) - 1) (drop 1 (set fields 0 count))) ≡ length fields - 1
 lent_others [] count some = absurd (omega arith)
-lent_others (x ∷ xs) count some =
-    let all : suc (length xs) - 1 ≡ length xs = omega arith in
-    rw (all, take-length)
+lent_others (x ∷ xs) count some = rw (others_long xs, take-length)
 
 pub counted : (fields others : List ℕ) (count : ℕ) → 1 ≤ length fields
     → put_mid 1 (length (set fields 0 count) - 1) (set fields 0 count) others ≡ count ∷ others
 counted [] others count some = absurd (omega arith)
-counted (x ∷ xs) others count some =
-    let all : suc (length xs) - 1 ≡ length xs = omega arith in
-    rw (all, drop-length, append-nil)
+counted (x ∷ xs) others count some = rw (others_long xs, drop-length, append-nil)
 
 -- ---- the second face
 

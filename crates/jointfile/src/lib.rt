@@ -250,7 +250,7 @@ fn has_row_counts(joint: &Joint) -> bool
     true
 }
 
-// Whether the levers past so many rows are 0. They come by value: lending a face's field copies the whole face, which was slower.
+// Whether the levers past so many rows are 0. They come by value: behind a reference no proof knows that they are eight.
 fn is_spare_zero(rows: u32, levers: [u32; 8]) -> bool
     requires { rows ≤ 8 }
     ensures { result ≡ all_zero (drop rows levers) }
@@ -274,8 +274,8 @@ fn has_zero_spares(joint: &Joint) -> bool
     true
 }
 
-// Writes the file of a joint whose row counts and spare levers are right. It comes by value, and the levers are copied: of levers that a
-// joint behind a reference has no proof knows that they are eight, and lending a part of a face's field copies the whole face.
+// Writes the file of a joint whose row counts and spare levers are right. It comes by value: of the levers of a joint behind a reference no
+// proof knows that they are eight. And the levers are copied: to lend a part of a field of a joint by value copies the whole face.
 fn write_parts(joint: Joint, buffer: &mut [u8]) -> Result<usize, WriteRefusal>
     requires { (rows_check joint).1 ≡ true }
     ensures { written_meaning result buffer.new ≡ writing_if_room (file New joint) buffer.old }

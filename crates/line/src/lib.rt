@@ -3,7 +3,7 @@
 // that there is room for what it hands over.
 #![tactic(auto)]
 
-ghost use Rattle.std.specs.Prelude.{◌≡◌, [], ◌∷◌, ◌++◌, map, Ok, Err};
+ghost use Rattle.std.specs.Prelude.{◌≡◌, [], ◌∷◌, map, Ok, Err};
 ghost use Rattle.outcome.specs.Outcome.{outcome_meaning, second_panel};
 ghost use Rattle.jointfile.specs.Answers.{read_refusal};
 ghost use Rattle.items.specs.Digits.{decimal};
@@ -59,7 +59,7 @@ fn put_work_refusal<S: Sink>(sink: &mut S, number: u64, refused: JointRefusal)
     sink.byte(b'\n');
 }
 
-// The joint's number, R, and the refusal's number.
+// The joint's number, R, and the refusal's number: Read's and Work's refusals have no other thing in common.
 fn begin_refusal<S: Sink>(sink: &mut S, number: u64, refusal: u32)
     requires { S.has_room sink.old (refusal_begun number refusal) }
     ensures { S.takes sink.old (refusal_begun number refusal) sink.new }

@@ -61,7 +61,7 @@ impl FaceRefusal {
         }
     }
 
-    // The first field out of range, with refusal 10; else 0.
+    // The first field out of range, with refusal 10; else 0, as the calls' answer and the vectors have it: by name it is in the refusal.
     pub fn field(self) -> u32
         ensures { result ≡ field_of_refusal self }
     {
@@ -92,7 +92,7 @@ impl From<OutOfRange> for FaceRefusal {
     }
 }
 
-// Which of a joint's faces is refused: its only one, or one of two.
+// Which of a joint's faces is refused: its only one, or one of two. Three names and no Option, since each has its number by the rules.
 #[derive(Clone, Copy, PartialEq, Eq, Debug)]
 pub enum RefusedFace {
     Only = 0,

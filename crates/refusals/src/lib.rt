@@ -2,10 +2,10 @@
 // place; and bolts far enough from web, weld and edge. Rows count from 0. Work calls these for faces whose fields are in range.
 #![tactic(auto)]
 
-ghost use Rattle.std.specs.Prelude.{◌≡◌, ℕ, ◌≤◌, leb, length};
+ghost use Rattle.std.specs.Prelude.{◌≡◌, ℕ, leb, length};
 ghost use Rattle.arithmetic.specs.Range.{Within, ◌to◌};
 ghost use Rattle.arithmetic.specs.Table.{every};
-ghost use Rattle.joint.specs.Ranges.{row_counts, most_lever};
+ghost use Rattle.joint.specs.Ranges.{most_lever};
 ghost use Rattle.refusals.specs.Refusals.{fall_by, in_place, rows_in_place, too_tight};
 ghost use Rattle.refusals.specs.Steps.{PlacesInRange};
 

@@ -80,7 +80,7 @@ pub fn effective_length(circular: u64, side: u64, rise: u64) -> u64
     (circular + 20 * rise).min(side + 10 * rise)
 }
 
-// The least of seven patterns about the extension row.
+// The least of seven patterns about the extension row. Two are those of a row alone, but m is greater here than `Lengths` takes.
 #[tactic(auto, unfolding(crate::specs::Bending::extension_length))]
 pub fn extension_length(m: u64, edge: u32, plate_edge: u64, gauge: u32, width: u32) -> u64
     requires { ExtensionParts m edge plate_edge gauge width }

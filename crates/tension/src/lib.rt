@@ -24,7 +24,7 @@ pub struct Dimensions {
     pub plate_lengths: Lengths,
     // alpha×m÷100, in the place of the plate's side yielding next to the beam flange
     pub near_flange: u64,
-    // the extension row's plate limit, 0 if flush
+    // the extension row's plate limit; 0 if flush, where no row asks for it: an Option would have to be matched where it is there
     pub extension_limit: u64,
     // 173g: the length of web that a row alone pulls on
     pub web_length: u64,

@@ -2,7 +2,7 @@
 // Work calls these for joints whose fields are in range.
 #![tactic(auto)]
 
-ghost use Rattle.std.specs.Prelude.{◌≡◌, ℕ, ◌+◌, ◌*◌, ◌/◌, ◌≤◌, min, cond, eqb, leb, get_or, take};
+ghost use Rattle.std.specs.Prelude.{◌≡◌, ℕ, ◌+◌, ◌*◌, ◌/◌, ◌≤◌, min, leb, get_or};
 ghost use Rattle.arithmetic.specs.Range.{Within};
 ghost use Rattle.joint.specs.InRange.{BeamInRange, FaceInRange};
 ghost use Rattle.strength.specs.Steel.{weld_strength};
