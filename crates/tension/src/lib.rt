@@ -71,7 +71,8 @@ impl Dimensions {
         }
     }
 
-    // The limits of the groups that begin at a row or below, row by row, at the front of a part of a table.
+    // The limits of the groups that begin at a row or below, row by row, at the front of a part of a table. It calls itself on the rest, as
+    // its promise goes: the row's own part, and what is promised of the rest.
     fn fill_limits(&self, row: usize, levers: &[u32], table: &mut [u64])
         requires { FillAsked self.now levers.now row table.old }
         ensures { FilledFrom (length levers.now) (limits_by self.now levers.now) row table.old table.new }
@@ -83,7 +84,8 @@ impl Dimensions {
         }
     }
 
-    // The limits of the groups that begin at a row, from the shortest to the longest, by its lever and those below it.
+    // The limits of the groups that begin at a row, from the shortest to the longest, by its lever and those below it: a rise is the first
+    // less another, so both are asked by place.
     fn fill_row(&self, row: usize, levers: &[u32], limits: &mut [u64])
         requires { RowAsked self.now levers.now limits.old }
         ensures { (k : ℕ) → k < length levers.now

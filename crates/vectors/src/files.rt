@@ -9,7 +9,7 @@ use words::joints::{JOINT_WORDS, JointWords, put_joint};
 // The numbers that read answers.
 const READ_NUMBERS: usize = JOINT_WORDS + 2;
 
-// Refusal, next place, and the words of the joint.
+// Refusal, next place, and the words of the joint, all as numbers, as a line has them.
 fn read_numbers(file: &[u8], kind: FileKind) -> [u64; READ_NUMBERS] {
     let mut numbers = [0u64; READ_NUMBERS];
     match jointfile::read(file, kind) {

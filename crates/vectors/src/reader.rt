@@ -47,7 +47,7 @@ impl<'a> Items<'a> {
         hold(ends, Difference::Unreadable)
     }
 
-    // The number whose digits stand next.
+    // The number whose digits stand next. Cut off as the bytes below are: over a closure for the test the cut isn't proved to be within.
     fn digits(&mut self) -> Option<u64> {
         let count = self
             .left
