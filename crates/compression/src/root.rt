@@ -2,9 +2,9 @@
 ghost use Rattle.std.specs.Prelude.{◌≡◌};
 ghost use Rattle.compression.specs.Root.{root_case, Guess};
 
-// The greatest r with r * r at most x, or none for 0, from which a guess can't start: by the project's rules it has a case of its own. By Newton's steps
-// and not by std's root, since these are fewer. A guess that isn't below the root stays so, and falls
-// until it is the root. It is below 2^32, so its square fits.
+// The greatest r with r * r at most x, or none for 0, which has a case of its own (docs/DECISIONS.md). By Newton's steps, which are fewer
+// than the turns of std's root. A guess that isn't below the root stays so, and falls until it is the root. It is below 2^32, so its square
+// fits.
 pub fn square_root(x: u64) -> Option<u64>
     ensures { result ≡ root_case x }
 {

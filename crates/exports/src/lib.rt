@@ -174,7 +174,7 @@ fn work_words(table: TableWords, fields: JointWords, res: &mut [u64]) -> Result<
     }
 }
 
-// Works any joint's words.
+// The same of any joint, asked where there are two faces.
 fn work_joint(table: TableWords, fields: JointWords, res: &mut [u64]) -> Result<(), JointRefusal>
     requires { outcome_word_count ≤ length res.old }
     ensures equals { WordsPut result

@@ -31,7 +31,7 @@ impl CompressionCheck {
         }
     }
 
-    // The one with the smaller force, the first where they are equal. std's `min_by_key` says that no plainer, and has to be unfolded.
+    // The one with the smaller force, the first where they are equal. std's `min_by_key` would be no plainer, and to unfold.
     #[tactic(auto, unfolding(crate::specs::Governing::lesser))]
     fn lesser(self, other: CompressionCheck) -> CompressionCheck
         ensures { result ≡ lesser self other }

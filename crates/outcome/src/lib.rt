@@ -61,7 +61,7 @@ impl FaceRefusal {
         }
     }
 
-    // The first field out of range, with refusal 10; else 0, as the calls' answer and the vectors have it: by name it is in the refusal.
+    // The first field out of range, with refusal 10; else 0, as C's answer and the vectors have it. By name it is in `OutOfRange`.
     pub fn field(self) -> u32
         ensures { result ≡ field_of_refusal self }
     {
@@ -71,7 +71,7 @@ impl FaceRefusal {
         }
     }
 
-    // The same of a joint, whose face this is.
+    // The refusal of the joint whose face this is.
     pub fn on(self, face: RefusedFace) -> JointRefusal
         ensures { result ≡ record { refusal = self; face = face } }
     {

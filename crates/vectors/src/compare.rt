@@ -51,7 +51,7 @@ pub fn compare(are: &[u64], should: &[u64]) -> Result<(), Difference>
     Ok(())
 }
 
-// Nothing where a test holds, and a difference where it doesn't.
+// Ok where a test holds, and else the difference.
 pub fn hold(test: bool, difference: Difference) -> Result<(), Difference> {
     if test { Ok(()) } else { Err(difference) }
 }

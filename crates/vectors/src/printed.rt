@@ -99,7 +99,7 @@ pub fn run_cell(items: &mut Items) -> Result<(), Difference> {
     hold(cell.is_near(), cell.off_print())
 }
 
-// An exception: it is known not to be. The two ask for a thing and its contrary, and share all else.
+// An exception: what Work gives is known not to be near it. The two ask for a thing and its contrary, and share all else.
 pub fn run_exception(items: &mut Items) -> Result<(), Difference> {
     let cell = Cell::read(items)?;
     hold(!cell.is_near(), cell.off_print())

@@ -55,7 +55,7 @@ impl JointWords<'_> {
         )
     }
 
-    // Field 1 says it.
+    // Whether there is a second face, by field 1.
     pub fn is_two_faced(self) -> bool
         ensures { result ≡ two_faced (joint_of_words self.entry.words.now).face.rows }
     {
@@ -79,7 +79,7 @@ impl JointWords<'_> {
         }
     }
 
-    // Fields as the file stores them, from the word at a place on: among them N has its place.
+    // So many fields as the file stores them, from the word at `from` on: N is the one at `axial` among them.
     fn fields<const COUNT: usize>(self, from: usize, axial: usize) -> [u32; COUNT]
         requires { (from + COUNT ≤ joint_word_count) × (axial < COUNT) }
         ensures { result ≡ fields_of_words axial (words_from from COUNT self.entry.words.now) }

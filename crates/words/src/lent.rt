@@ -1,7 +1,7 @@
 // Words that are lent to be read.
 ghost use Rattle.std.specs.Prelude.{◌≡◌, ◌≤◌, ◌<◌, length, MatchOption};
 
-// So many words, and maybe more after them.
+// At least so many words.
 #[derive(Clone, Copy)]
 pub struct LentWords<'a, const COUNT: usize> {
     pub words: &'a [u32],
@@ -9,7 +9,7 @@ pub struct LentWords<'a, const COUNT: usize> {
 }
 
 impl<'a, const COUNT: usize> LentWords<'a, COUNT> {
-    // Where there are as many.
+    // The words, or none where there are fewer.
     pub fn of(words: &'a [u32]) -> Option<LentWords<'a, COUNT>>
         ensures { MatchOption result (length words.now < COUNT) (λ lent. lent.words.now ≡ words.now) }
     {

@@ -55,7 +55,7 @@ fn put_result(of_face: &FaceResult, words: &mut [u64])
 }
 
 // Puts the words of a joint's only face at the front of a slice, and 0 for a second face and for the panel. How many forces a face has is
-// promised here and below, since of a face behind a reference a caller isn't told.
+// promised by each of these three, since of a face behind a reference a caller isn't told.
 pub fn put_one_face(of_face: &FaceResult, words: &mut [u64])
     requires { outcome_word_count ≤ length words.old }
     ensures forces_len { length of_face.now.forces ≡ 8 }
