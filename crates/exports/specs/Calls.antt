@@ -1,5 +1,5 @@
 -- Each exported call: which slices are long enough, which refusal is answered, and what is put where. Assumes nothing.
-use Rattle.std.specs.Prelude.{ℕ, List, ◌≡◌, Result, Ok, Err, Bool, true, false, cond, ◌&&◌, leb, eqb, length, get_or, take, drop}
+use Rattle.std.specs.Prelude.{ℕ, List, ◌≡◌, Result, Ok, Err, OnOk, Bool, true, false, cond, ◌&&◌, leb, eqb, length, get_or, take, drop}
 use Rattle.buffers.specs.Put.{at_front}
 use Rattle.bolttable.specs.Area.{area_of}
 use Rattle.bolttable.specs.Loading.{loaded, built_in}
@@ -93,6 +93,11 @@ pub record Demand3OfWords (table : BoltTable) (joint : Joint) (words : List ℕ)
   pub one_face : two_faced joint.face.rows ≡ false → Demand3OfFace true table joint (first_face joint.face) words
   pub first_of_two : two_faced joint.face.rows ≡ true → Demand3OfFace false table joint (first_face joint.face) words
   pub second_of_two : two_faced joint.face.rows ≡ true → Demand3OfFace false table joint joint.other (drop face_word_count words)
+
+-- What the words of a joint, worked with those of a table, came to: Work's outcome is put, and with it demand 3 holds.
+pub record WorkedWords (table fields : List ℕ) (result : Result (Unit {0}) JointRefusal) (before after : List ℕ) : Type 0 where
+  pub equals : WordsPut result (worked (table_of_words table) (joint_of_words fields)) before after
+  pub demand : OnOk result (Demand3OfWords (table_of_words table) (joint_of_words fields) after)
 
 -- rule 13.1: 101 says that there is no room for all lines
 abbrev pub sheet_answer : (size : ℕ) → Printing → Answered BufferFront

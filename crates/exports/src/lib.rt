@@ -9,19 +9,18 @@
 // The sheet's refusals are its lines: they are printed, `R 4` too, and answered 0.
 #![tactic(auto)]
 
-ghost use Rattle.std.specs.Prelude.{◌≡◌, ◌≤◌, false, length, take, OnOk};
+ghost use Rattle.std.specs.Prelude.{◌≡◌, ◌≤◌, false, length, take};
 ghost use Rattle.joint.specs.Faces.{two_faced};
 ghost use Rattle.jointfile.specs.File.{reading};
 ghost use Rattle.sharing.specs.Groups.{listed};
 ghost use Rattle.sharing.specs.Best.{Best};
 ghost use Rattle.outcome.specs.Outcome.{number_of, field_of_refusal, face_number};
-ghost use Rattle.work.specs.Work.{worked};
 ghost use Rattle.words.specs.Tables.{table_of_words};
 ghost use Rattle.words.specs.Words.{first_word_count, joint_of_words};
 ghost use Rattle.words.specs.Results.{outcome_word_count};
 ghost use Rattle.exports.specs.Answers.{answer_number, answers};
 ghost use Rattle.exports.specs.Calls.{allocating, kind_of, reading_into, writing_into, built_in_into, loading_into, working_into};
-ghost use Rattle.exports.specs.Calls.{WordsPut, Demand3OfWords, sheeting_into};
+ghost use Rattle.exports.specs.Calls.{WorkedWords, Demand3OfWords, sheeting_into};
 
 use connection::{SharedParts, work_connection};
 use jointfile::FileKind;
@@ -162,10 +161,7 @@ fn answer_of(refused: JointRefusal) -> u32
 // Works a joint's words with a table's, and puts the words of what they come to.
 fn work_words(table: TableWords, fields: JointWords, res: &mut [u64]) -> Result<(), JointRefusal>
     requires { outcome_word_count ≤ length res.old }
-    ensures equals { WordsPut result
-        (worked (table_of_words table.entry.words.now) (joint_of_words fields.entry.words.now)) res.old res.new }
-    ensures demand { OnOk result
-        (Demand3OfWords (table_of_words table.entry.words.now) (joint_of_words fields.entry.words.now) res.new) }
+    ensures { WorkedWords table.entry.words.now fields.entry.words.now result res.old res.new }
 {
     if fields.is_two_faced() {
         work_joint(table, fields, res)
@@ -177,10 +173,7 @@ fn work_words(table: TableWords, fields: JointWords, res: &mut [u64]) -> Result<
 // The same of any joint, asked where there are two faces.
 fn work_joint(table: TableWords, fields: JointWords, res: &mut [u64]) -> Result<(), JointRefusal>
     requires { outcome_word_count ≤ length res.old }
-    ensures equals { WordsPut result
-        (worked (table_of_words table.entry.words.now) (joint_of_words fields.entry.words.now)) res.old res.new }
-    ensures demand { OnOk result
-        (Demand3OfWords (table_of_words table.entry.words.now) (joint_of_words fields.entry.words.now) res.new) }
+    ensures { WorkedWords table.entry.words.now fields.entry.words.now result res.old res.new }
 {
     let joint = fields.joint();
     let area = table.lent().area_of(joint.bolts.diameter);
@@ -198,10 +191,7 @@ fn work_only_face(
 ) -> Result<(), JointRefusal>
     requires room { outcome_word_count ≤ length res.old }
     requires alone { two_faced (joint_of_words fields.words.now).face.rows ≡ false }
-    ensures equals { WordsPut result
-        (worked (table_of_words table.entry.words.now) (joint_of_words fields.entry.words.now)) res.old res.new }
-    ensures demand { OnOk result
-        (Demand3OfWords (table_of_words table.entry.words.now) (joint_of_words fields.entry.words.now) res.new) }
+    ensures { WorkedWords table.entry.words.now fields.entry.words.now result res.old res.new }
 {
     let OneFaced {
         column,

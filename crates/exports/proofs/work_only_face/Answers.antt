@@ -20,25 +20,29 @@ is_worked c =
     alone_is (table_of_words c.args.table.words.now) (joint_of_words c.args.fields.words.now) c.requires.alone c.one_faced.ensures (rw c.lent.ensures at c.area_of-area.ensures)
     (ap of_one_face c.work_connection.ensures.equals)
 
-pub returns-in-Err-clause-equals : goal.returns-in-Err-clause-equals
-returns-in-Err-clause-equals c = (
-  rw c.on.ensures (ap of_one_face (ap face_meaning (sym c.in-Err.is)) ∙ is_worked (goal.at.returns-in-Err-clause-equals c).After-work_connection),
-  refl,
-)
+pub returns-in-Err : goal.returns-in-Err
+returns-in-Err c = record {
+  equals = (
+    rw c.on.ensures (ap of_one_face (ap face_meaning (sym c.in-Err.is)) ∙ is_worked (goal.at.returns-in-Err c).After-work_connection),
+    refl,
+  );
+  demand = tt;
+}
 
-pub returns-in-Ok-clause-equals : goal.returns-in-Ok-clause-equals
-returns-in-Ok-clause-equals c =
-    let is = ap of_one_face (ap face_meaning (sym c.in-Ok.is)) ∙ is_worked (goal.at.returns-in-Ok-clause-equals c).After-work_connection in (
-      sym (ap (λ (o : Outcome). o.refusal.number) is),
-      c.put_one_face.ensures.words_after ∙ ap (λ (o : Outcome). at_front (outcome_words o) c.args.res.now) is,
-    )
-
-pub returns-in-Ok-clause-demand : goal.returns-in-Ok-clause-demand
-returns-in-Ok-clause-demand c =
+pub returns-in-Ok : goal.returns-in-Ok
+returns-in-Ok c =
     let table = table_of_words c.args.table.words.now in
     let joint = joint_of_words c.args.fields.words.now in
     let outcome = of_one_face (face_meaning (Ok c.in-Ok.result)) in
-    rw c.put_one_face.ensures.words_after
-    (demand_words c.args.res.now table joint outcome c.put_one_face.ensures.forces_len refl
-    (alone_demand table joint c.requires.alone c.one_faced.ensures (rw c.lent.ensures at c.area_of-area.ensures) outcome
-    (rw c.in-Ok.is at c.work_connection.ensures.demand)))
+    let is = ap of_one_face (ap face_meaning (sym c.in-Ok.is)) ∙ is_worked (goal.at.returns-in-Ok c).After-work_connection in
+    record {
+      equals = (
+        sym (ap (λ (o : Outcome). o.refusal.number) is),
+        c.put_one_face.ensures.words_after ∙ ap (λ (o : Outcome). at_front (outcome_words o) c.args.res.now) is,
+      );
+      demand =
+          rw c.put_one_face.ensures.words_after
+          (demand_words c.args.res.now table joint outcome c.put_one_face.ensures.forces_len refl
+          (alone_demand table joint c.requires.alone c.one_faced.ensures (rw c.lent.ensures at c.area_of-area.ensures) outcome
+          (rw c.in-Ok.is at c.work_connection.ensures.demand)));
+    }
