@@ -96,7 +96,6 @@ fn refusal_case(trouble: Trouble) -> &'static str {
         Trouble::RowsTooClose => "work: refusal 19",
         Trouble::RowPlace => "work: refusal 12",
         Trouble::TooTight => "work: refusal 13",
-        Trouble::TooThick => "work: refusal 14",
         Trouble::Compression => "work: refusal 15",
     }
 }
@@ -108,7 +107,6 @@ fn refusal_case_of_first(trouble: Trouble) -> &'static str {
         Trouble::RowsTooClose => "work, two faces: refusal 19 of the first",
         Trouble::RowPlace => "work, two faces: refusal 12 of the first",
         Trouble::TooTight => "work, two faces: refusal 13 of the first",
-        Trouble::TooThick => "work, two faces: refusal 14 of the first",
         Trouble::Compression => "work, two faces: refusal 15 of the first",
     }
 }
@@ -120,7 +118,6 @@ fn refusal_case_of_second(trouble: Trouble) -> &'static str {
         Trouble::RowsTooClose => "work, two faces: refusal 19 of the second",
         Trouble::RowPlace => "work, two faces: refusal 12 of the second",
         Trouble::TooTight => "work, two faces: refusal 13 of the second",
-        Trouble::TooThick => "work, two faces: refusal 14 of the second",
         Trouble::Compression => "work, two faces: refusal 15 of the second",
     }
 }

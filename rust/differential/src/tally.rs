@@ -4,7 +4,7 @@ use std::collections::BTreeMap;
 use std::fmt;
 
 /// What a run of full size has to reach.
-const CASES: [&str; 137] = [
+const CASES: [&str; 134] = [
     "allocate: refusal 3",
     "allocate: refusal 7",
     "allocate: refusal 8",
@@ -86,8 +86,6 @@ const CASES: [&str; 137] = [
     "work, two faces: refusal 12 of the second",
     "work, two faces: refusal 13 of the first",
     "work, two faces: refusal 13 of the second",
-    "work, two faces: refusal 14 of the first",
-    "work, two faces: refusal 14 of the second",
     "work, two faces: refusal 15 of the first",
     "work, two faces: refusal 15 of the second",
     "work, two faces: refusal 19 of the first",
@@ -122,7 +120,6 @@ const CASES: [&str; 137] = [
     "work: refusal 11",
     "work: refusal 12",
     "work: refusal 13",
-    "work: refusal 14",
     "work: refusal 15",
     "work: refusal 19",
     "work: rows 25δ apart",

@@ -279,4 +279,9 @@ impl Face {
     pub fn is_extended(&self) -> bool {
         self.extended == 1
     }
+
+    /// The place of the first row below the beam flange; past the last row where there is none.
+    pub fn row_under_flange(&self) -> usize {
+        usize::from(self.is_extended())
+    }
 }

@@ -74,7 +74,6 @@ pub enum Trouble {
     RowsTooClose,
     RowPlace,
     TooTight,
-    TooThick,
     Compression,
 }
 
@@ -86,7 +85,6 @@ impl WorkRefusal {
             Trouble::RowsTooClose => 19,
             Trouble::RowPlace => 12,
             Trouble::TooTight => 13,
-            Trouble::TooThick => 14,
             Trouble::Compression => 15,
         }
     }

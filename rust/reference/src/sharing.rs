@@ -29,9 +29,44 @@ pub fn allocate(count: usize, limits: &[u64]) -> Result<[u64; ROWS], AllocateRef
     Ok(share(count, limits))
 }
 
-/// As `allocate`, for limits that are known to be enough and small enough. A row's force is the least sum down to it, over groups
-/// that end at it, less the sum above it: each limit is lowered once, and counted once into the sums of the rows it reaches.
+/// As `allocate`, for limits that are known to be enough and small enough.
 pub fn share(count: usize, limits: &[u64]) -> [u64; ROWS] {
+    share_keeping(count, limits, |_, force, _| force)
+}
+
+/// As `share`, but by the triangle: each row below the reference row gets no more than its added limit.
+pub fn share_in_triangle(
+    count: usize,
+    limits: &[u64],
+    reference: usize,
+    levers: &[u32; ROWS],
+) -> [u64; ROWS] {
+    share_keeping(count, limits, |row, force, forces| {
+        if row > reference {
+            force.min(added_limit(
+                forces[reference],
+                levers[row],
+                levers[reference],
+            ))
+        } else {
+            force
+        }
+    })
+}
+
+/// The reference row's force by lever ÷ reference lever.
+fn added_limit(reference_force: u64, lever: u32, reference_lever: u32) -> u64 {
+    reference_force * u64::from(lever) / u64::from(reference_lever)
+}
+
+/// A row's force is the least sum down to it, over groups that end at it, less the sum above it, and then what is `kept` of that,
+/// which goes by the row and the forces above: each limit is lowered once, and counted once into the sums of the rows it reaches.
+#[inline]
+fn share_keeping(
+    count: usize,
+    limits: &[u64],
+    kept: impl Fn(usize, u64, &[u64; ROWS]) -> u64,
+) -> [u64; ROWS] {
     let mut forces = [0; ROWS];
     let mut sums = [u64::MAX; ROWS];
     let mut above = 0;
@@ -43,8 +78,8 @@ pub fn share(count: usize, limits: &[u64]) -> [u64; ROWS] {
             lowered = lowered.min(limit);
             *sum = (*sum).min(above + lowered);
         }
-        forces[first] = sums[first] - above;
-        above = sums[first];
+        forces[first] = kept(first, sums[first] - above, &forces);
+        above += forces[first];
         rest = others;
     }
     forces
@@ -71,26 +106,92 @@ mod tests {
         forces
     }
 
-    #[test]
-    fn shared_as_document_01_says() {
+    /// Request g's words: the reference row's force, a further limit on each row below it alone, and all rows shared again.
+    fn triangle_as_written(
+        count: usize,
+        limits: &[u64],
+        reference: usize,
+        levers: &[u32; ROWS],
+    ) -> [u64; ROWS] {
+        let shared = as_written(count, limits);
+        let mut further = limits.to_vec();
+        for row in reference + 1..count {
+            let own = &mut further[place(count, row, row)];
+            *own = (*own)
+                .min(shared[reference] * u64::from(levers[row]) / u64::from(levers[reference]));
+        }
+        let forces = as_written(count, &further);
+        assert_eq!(forces[..=reference], shared[..=reference]);
+        forces
+    }
+
+    /// Numbers that look random.
+    fn numbers() -> impl FnMut() -> u64 {
         let mut state = 1_u64;
-        let mut next = || {
+        move || {
             state = state
                 .wrapping_mul(6_364_136_223_846_793_005)
                 .wrapping_add(1);
             state >> 33
-        };
+        }
+    }
+
+    fn table(next: &mut impl FnMut() -> u64, most: u64) -> (usize, Vec<u64>) {
+        let count = next() as usize % 8 + 1;
+        let groups = count * (count + 1) / 2;
+        (count, (0..groups).map(|_| next() % (most + 1)).collect())
+    }
+
+    const MOSTS: [u64; 4] = [3, 100, 10_000, 4_000_000_000];
+
+    #[test]
+    fn shared_as_document_01_says() {
+        let mut next = numbers();
         for turn in 0..20_000 {
-            let count = next() as usize % 8 + 1;
-            let most = [3, 100, 10_000, 4_000_000_000][turn % 4];
-            let limits: Vec<u64> = (0..count * (count + 1) / 2)
-                .map(|_| next() % (most + 1))
-                .collect();
+            let (count, limits) = table(&mut next, MOSTS[turn % 4]);
             assert_eq!(
                 share(count, &limits),
                 as_written(count, &limits),
                 "{limits:?}"
             );
+        }
+    }
+
+    #[test]
+    fn shared_in_the_triangle_as_request_g_says() {
+        let mut next = numbers();
+        let mut more = 0;
+        for turn in 0..40_000 {
+            let (count, limits) = table(&mut next, MOSTS[turn % 4]);
+            let reference = (next() as usize % 2).min(count - 1);
+            let mut levers = [0; ROWS];
+            let mut lever = 1;
+            for place in levers[..count].iter_mut().rev() {
+                *place = lever;
+                lever += next() as u32 % 2000 + 1;
+            }
+            let forces = share_in_triangle(count, &limits, reference, &levers);
+            let written = triangle_as_written(count, &limits, reference, &levers);
+            assert_eq!(forces, written, "{limits:?} {levers:?}");
+            let plain = share(count, &limits);
+            more += usize::from(
+                forces
+                    .iter()
+                    .zip(plain)
+                    .any(|(&force, plain)| force > plain),
+            );
+        }
+        // rows below a limited one often get more than without the triangle
+        assert!(more > 1000, "{more}");
+    }
+
+    #[test]
+    fn no_row_below_the_reference() {
+        let levers = [500, 400, 0, 0, 0, 0, 0, 0];
+        for (count, reference) in [(1, 0), (2, 1), (1, 1)] {
+            let limits = [70, 60, 50];
+            let forces = share_in_triangle(count, &limits, reference, &levers);
+            assert_eq!(forces, share(count, &limits));
         }
     }
 }

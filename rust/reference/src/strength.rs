@@ -91,7 +91,7 @@ fn bolt_class(class: u32) -> (u64, u64, u64, u64) {
     }
 }
 
-/// Refusal 14: flange and plate both too thick to yield before the bolts break.
+/// Whether column flange and plate are both too thick to yield before the bolts break, so that the rows go by the triangle.
 pub fn both_too_thick(
     column: &Column,
     plate: &Plate,

@@ -194,7 +194,7 @@ impl Parts {
             },
             column_web: Web::new(gauge, column.web, steel.column),
             beam_web: Web::new(gauge, face.beam.web, steel.beam),
-            under_flange: usize::from(face.is_extended()),
+            under_flange: face.row_under_flange(),
         }
     }
 

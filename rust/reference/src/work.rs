@@ -5,7 +5,7 @@ use crate::compression::{governing, panel_passes, panel_shear, Faces};
 use crate::joint::{Bolts, Column, Face, Joint, ROWS};
 use crate::outcome::{FaceResult, JointResult, OtherResult, Trouble, WorkRefusal};
 use crate::range::first_outside;
-use crate::sharing::share;
+use crate::sharing::{share, share_in_triangle};
 use crate::strength::{both_too_thick, BoltStrengths, SteelStrengths};
 use crate::tension::{group_limits, Distances};
 use crate::verdict::verdicts;
@@ -81,9 +81,6 @@ fn work_face(
     let distances = Distances::of(column, face).ok_or(Trouble::TooTight)?;
     let bolt = BoltStrengths::of(bolts, area);
     let steel = SteelStrengths::of(column, face);
-    if both_too_thick(column, &face.plate, &steel, &bolt) {
-        return Err(Trouble::TooThick);
-    }
     let (check, governing_force) = governing(column, face, &steel, faces);
     let cap = u64::try_from(governing_force as i64 - i64::from(face.loads.axial))
         .map_err(|_| Trouble::Compression)?;
@@ -101,7 +98,8 @@ fn work_face(
     })
 }
 
-/// The cap is one more limit on all rows together.
+/// The cap is one more limit on all rows together. Where column flange and plate are both too thick, the rows below the first one
+/// under the beam flange go by the triangle.
 fn row_forces(
     column: &Column,
     bolt: &BoltStrengths,
@@ -113,7 +111,11 @@ fn row_forces(
     let rows = face.row_count();
     let mut limits = group_limits(column, bolt, face, steel, distances);
     limits[rows - 1] = limits[rows - 1].min(cap);
-    share(rows, &limits)
+    if both_too_thick(column, &face.plate, steel, bolt) {
+        share_in_triangle(rows, &limits, face.row_under_flange(), &face.levers)
+    } else {
+        share(rows, &limits)
+    }
 }
 
 /// Refusal 11: each row's lever is below that of the row above it.

@@ -1,8 +1,8 @@
 //! Joints with a beam on both faces: the panel, the cap without it, and each refusal of either face.
 
 use reference::{
-    read, rest, sheet, work, write, Check, FaceResult, FileKind, Joint, ReadRefusal, WriteRefusal,
-    BUILT_IN, LONGEST_FILE, SECOND_FACE,
+    read, rest, sheet, work, write, Check, Face, FaceResult, FileKind, Joint, ReadRefusal,
+    WriteRefusal, BUILT_IN, LONGEST_FILE, SECOND_FACE,
 };
 
 const KINDS: [FileKind; 2] = [FileKind::Old, FileKind::New];
@@ -123,6 +123,33 @@ fn the_panel_at_its_edge() {
     }
 }
 
+/// The column flange is too thick for the bolts; the plate of one face, then of the other.
+#[test]
+fn the_triangle_goes_by_the_plate_of_each_face() {
+    let both = |first: u32, second: u32| {
+        let (faces, _) = results(&with(|joint| {
+            joint.column.flange = 183;
+            joint.other = Face {
+                rows: 2,
+                levers: [2400, 800, 0, 0, 0, 0, 0, 0],
+                ..joint.other
+            };
+            joint.other.loads.axial = -10_000_000;
+            joint.other.plate.thickness = second;
+            joint.face = Face {
+                rows: SECOND_FACE + 2,
+                ..joint.other
+            };
+            joint.face.plate.thickness = first;
+        }));
+        faces.map(|face| face.forces[1] == face.forces[0] * 800 / 2400)
+    };
+    assert_eq!(both(182, 182), [false, false]);
+    assert_eq!(both(183, 182), [true, false]);
+    assert_eq!(both(182, 183), [false, true]);
+    assert_eq!(both(183, 183), [true, true]);
+}
+
 #[test]
 fn the_first_face_in_trouble_is_told_first() {
     let mut joint = with(|joint| {
@@ -145,12 +172,10 @@ fn the_first_face_in_trouble_is_told_first() {
     joint.other.layout.gauge = 399;
     assert_eq!(refusal(&joint), (13, 0, 2));
     joint.other.layout.gauge = 900;
-    joint.column.flange = 500;
-    joint.face.plate.thickness = 60;
-    joint.other.plate.thickness = 500;
-    assert_eq!(refusal(&joint), (14, 0, 2));
-    joint.face.plate.thickness = 500;
-    assert_eq!(refusal(&joint), (14, 0, 1));
+    joint.other.loads.axial = 10_000_000;
+    assert_eq!(refusal(&joint), (15, 0, 2));
+    joint.face.loads.axial = 10_000_000;
+    assert_eq!(refusal(&joint), (15, 0, 1));
 }
 
 #[test]
