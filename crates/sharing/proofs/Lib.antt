@@ -8,3 +8,4 @@ pub mod Theorems
 pub mod Agreement
 pub mod Cap
 pub mod Raising
+pub mod Triangle
