@@ -7,7 +7,10 @@ mod words;
 use proved::{longest_sheet, FORCES, JOINT_WORDS, NEW_KIND, RESULT_WORDS, TABLE_WORDS};
 use reference::{BoltTable, FileKind, Joint, BUILT_IN, GROUPS, LONGEST_FILE, LONGEST_INPUT, SIZES};
 use rounds::measure;
-use sample::{file_of, good_bolt_table, worked_joint, worked_two_faced_joint, Random};
+use sample::{
+    file_of, good_bolt_table, worked_joint, worked_joint_in_triangle, worked_two_faced_joint,
+    Random,
+};
 use std::hint::black_box;
 use std::iter::repeat_with;
 
@@ -16,6 +19,8 @@ const SEED: u64 = 7;
 const TWO_FACED_SEED: u64 = 8;
 /// Of bolt tables and of joints worked by one of twelve sizes, so that the others stay the same.
 const OWN_TABLE_SEED: u64 = 9;
+/// Of joints whose rows go by the triangle, so that the others stay the same.
+const TRIANGLE_SEED: u64 = 10;
 /// Different inputs of each line.
 const INPUTS: usize = 512;
 
@@ -45,6 +50,7 @@ fn main() {
     sheet_line(&input, time_sheet(&input));
     two_faced_lines(&mut Random::new(TWO_FACED_SEED));
     own_table_lines(&mut Random::new(OWN_TABLE_SEED));
+    triangle_lines(&mut Random::new(TRIANGLE_SEED));
 }
 
 fn two_faced_lines(random: &mut Random) {
@@ -74,6 +80,15 @@ fn own_table_lines(random: &mut Random) {
         "work, two faces of 3 rows, 12 sizes",
         time_work(&TWELVE_SIZES, &joints),
     );
+}
+
+fn triangle_lines(random: &mut Random) {
+    for (call, rows) in [("work, 3 rows, triangle", 3), ("work, 8 rows, triangle", 8)] {
+        let joints: Vec<Joint> = (0..INPUTS)
+            .map(|_| worked_joint_in_triangle(random, &BUILT_IN, rows))
+            .collect();
+        line(call, time_work(&BUILT_IN, &joints));
+    }
 }
 
 /// Joints with each of the twelve sizes in turn.

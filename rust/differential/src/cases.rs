@@ -2,14 +2,21 @@
 
 use crate::tally::Tally;
 use reference::{
-    greatest_area, minimum_pitch, moment, panel_shear, BoltTable, Check, Column, Face, FaceResult,
-    FileKind, Joint, JointResult, LoadRefusal, OtherResult, Raise, ReadRefusal, Trouble, Verdicts,
-    WorkRefusal, WriteRefusal, LONGEST_INPUT, ROWS, SECOND_FACE, SIZES,
+    forces_without_triangle, greatest_area, is_too_thick, minimum_pitch, moment, panel_shear,
+    BoltTable, Check, Column, Face, FaceResult, FileKind, Joint, JointResult, LoadRefusal,
+    OtherResult, Plate, Raise, ReadRefusal, Trouble, Verdicts, WorkRefusal, WriteRefusal,
+    LONGEST_INPUT, ROWS, SECOND_FACE, SIZES,
 };
+use sample::goes_by_triangle;
 
 // ---- Work
 
-pub fn count_worked(joint: &Joint, worked: &Result<JointResult, WorkRefusal>, tally: &mut Tally) {
+pub fn count_worked(
+    table: &BoltTable,
+    joint: &Joint,
+    worked: &Result<JointResult, WorkRefusal>,
+    tally: &mut Tally,
+) {
     let result = match worked {
         Ok(result) => result,
         Err(refusal) => return count_refusal(joint, refusal, tally),
@@ -20,6 +27,7 @@ pub fn count_worked(joint: &Joint, worked: &Result<JointResult, WorkRefusal>, ta
             tally.count("work: worked, with something in the second face");
         }
         tally.count_rows(0, joint.face.rows);
+        count_triangle(table, joint, &joint.face, &result.face, tally);
         return count_face(joint, &joint.face, &result.face, tally);
     };
     tally.count("work, two faces: worked");
@@ -28,6 +36,9 @@ pub fn count_worked(joint: &Joint, worked: &Result<JointResult, WorkRefusal>, ta
     tally.count_rows(2, joint.other.rows);
     count_face(joint, &first, &result.face, tally);
     count_face(joint, &joint.other, &other.face, tally);
+    count_triangle(table, joint, &first, &result.face, tally);
+    count_triangle(table, joint, &joint.other, &other.face, tally);
+    count_triangles_of_two(joint, tally);
     count_panel(joint, &result.face, other, tally);
 }
 
@@ -36,6 +47,9 @@ fn count_refusal(joint: &Joint, refusal: &WorkRefusal, tally: &mut Tally) {
         Trouble::Field(field) => tally.count_field(refusal.face, field),
         Trouble::RowsTooClose => {
             count_too_close(joint.bolts.diameter, &refused_face(joint, refusal), tally)
+        }
+        Trouble::Compression if goes_by_triangle(joint, &refused_face(joint, refusal)) => {
+            tally.count("work: refusal 15 in the triangle");
         }
         _ => {}
     }
@@ -142,6 +156,68 @@ fn count_face(joint: &Joint, face: &Face, result: &FaceResult, tally: &mut Tally
     count_verdicts(&result.verdicts, tally);
 }
 
+/// What the triangle did to a face's rows, or that only one part is too thick.
+fn count_triangle(
+    table: &BoltTable,
+    joint: &Joint,
+    face: &Face,
+    result: &FaceResult,
+    tally: &mut Tally,
+) {
+    if !goes_by_triangle(joint, face) {
+        return count_one_thick(joint, face, tally);
+    }
+    tally.count(if face.is_extended() {
+        "work: triangle, extended"
+    } else {
+        "work: triangle, flush"
+    });
+    let reference = face.row_under_flange();
+    if face.row_count() <= reference + 1 {
+        tally.count("work: triangle, no row below the reference");
+    } else if result.forces[reference] == 0 {
+        tally.count("work: triangle, the reference row has no force");
+    }
+    if result.sum == result.cap {
+        tally.count("work: triangle, limited by the cap");
+    }
+    let Joint { column, bolts, .. } = joint;
+    let without = forces_without_triangle(table, column, bolts, face, result.cap);
+    let mut rows = result.forces.iter().zip(without);
+    if rows.clone().any(|(&force, without)| force < without) {
+        tally.count("work: triangle, an added limit sets a row");
+    }
+    if rows.any(|(&force, without)| force > without) {
+        tally.count("work: triangle, a row gets more than without it");
+    }
+}
+
+fn count_one_thick(joint: &Joint, face: &Face, tally: &mut Tally) {
+    let Joint { column, bolts, .. } = joint;
+    let Plate {
+        grade, thickness, ..
+    } = face.plate;
+    let flange = |step: u32| is_too_thick(bolts, column.grade, column.flange + step);
+    let plate = |step: u32| is_too_thick(bolts, grade, thickness + step);
+    match (flange(0), plate(0)) {
+        (true, _) => tally.count("work: the column flange alone too thick"),
+        (_, true) => tally.count("work: the plate alone too thick"),
+        _ => {}
+    }
+    if flange(1) && plate(1) {
+        tally.count("work: one step of thickness short of the triangle");
+    }
+}
+
+fn count_triangles_of_two(joint: &Joint, tally: &mut Tally) {
+    match [joint.face, joint.other].map(|face| goes_by_triangle(joint, &face)) {
+        [true, false] => tally.count("work, two faces: the first in the triangle"),
+        [false, true] => tally.count("work, two faces: the second in the triangle"),
+        [true, true] => tally.count("work, two faces: both in the triangle"),
+        [false, false] => {}
+    }
+}
+
 /// Where the column end stands to 0.7dc.
 fn count_column_end(column: &Column, check: Check, tally: &mut Tally) {
     let end = 10 * column.end_distance;
@@ -220,6 +296,11 @@ pub fn count_own_table(
     worked: &Result<JointResult, WorkRefusal>,
     tally: &mut Tally,
 ) {
+    let faces = [joint.face, joint.other];
+    let faces = &faces[..if joint.is_two_faced() { 2 } else { 1 }];
+    if worked.is_ok() && faces.iter().any(|face| goes_by_triangle(joint, face)) {
+        tally.count("work, own table: a face in the triangle");
+    }
     match worked {
         Ok(result) if result.other.is_some() => tally.count("work, own table, two faces: worked"),
         Ok(_) => tally.count("work, own table: worked"),

@@ -63,7 +63,7 @@ pub fn compare_work(
         }
         Err(refusal) => (refusal.number(), refusal.field(), refusal.face),
     };
-    count_worked(joint, &worked, tally);
+    count_worked(table, joint, &worked, tally);
     if *table != BUILT_IN {
         count_own_table(table, joint, &worked, tally);
     }

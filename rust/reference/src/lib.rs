@@ -27,4 +27,5 @@ pub use outcome::{Check, FaceResult, JointResult, OtherResult, Trouble, Verdicts
 pub use raising::{broken_rule, moment, place, raised, Raise};
 pub use sharing::{allocate, AllocateRefusal, GROUPS};
 pub use sheet::{sheet, LONGEST_INPUT};
-pub use work::{minimum_pitch, work};
+pub use strength::is_too_thick;
+pub use work::{forces_without_triangle, minimum_pitch, work};

@@ -31,25 +31,22 @@ pub fn allocate(count: usize, limits: &[u64]) -> Result<[u64; ROWS], AllocateRef
 
 /// As `allocate`, for limits that are known to be enough and small enough.
 pub fn share(count: usize, limits: &[u64]) -> [u64; ROWS] {
-    share_keeping(count, limits, |_, force, _| force)
+    share_keeping(count, limits, |_, sum, _, _| sum)
 }
 
 /// As `share`, but by the triangle: each row below the reference row gets no more than its added limit.
+#[inline(never)]
 pub fn share_in_triangle(
     count: usize,
     limits: &[u64],
     reference: usize,
     levers: &[u32; ROWS],
 ) -> [u64; ROWS] {
-    share_keeping(count, limits, |row, force, forces| {
+    share_keeping(count, limits, |row, sum, above, forces| {
         if row > reference {
-            force.min(added_limit(
-                forces[reference],
-                levers[row],
-                levers[reference],
-            ))
+            sum.min(above + added_limit(forces[reference], levers[row], levers[reference]))
         } else {
-            force
+            sum
         }
     })
 }
@@ -59,13 +56,13 @@ fn added_limit(reference_force: u64, lever: u32, reference_lever: u32) -> u64 {
     reference_force * u64::from(lever) / u64::from(reference_lever)
 }
 
-/// A row's force is the least sum down to it, over groups that end at it, less the sum above it, and then what is `kept` of that,
-/// which goes by the row and the forces above: each limit is lowered once, and counted once into the sums of the rows it reaches.
+/// The sum down to a row is the least over groups that end at it, and of that what is `kept`, which goes by the row, the sum above it and
+/// the forces above it. Each limit is lowered once, and counted once into the sums of the rows it reaches.
 #[inline]
 fn share_keeping(
     count: usize,
     limits: &[u64],
-    kept: impl Fn(usize, u64, &[u64; ROWS]) -> u64,
+    kept: impl Fn(usize, u64, u64, &[u64; ROWS]) -> u64,
 ) -> [u64; ROWS] {
     let mut forces = [0; ROWS];
     let mut sums = [u64::MAX; ROWS];
@@ -78,8 +75,9 @@ fn share_keeping(
             lowered = lowered.min(limit);
             *sum = (*sum).min(above + lowered);
         }
-        forces[first] = kept(first, sums[first] - above, &forces);
-        above += forces[first];
+        let sum = kept(first, sums[first], above, &forces);
+        forces[first] = sum - above;
+        above = sum;
         rest = others;
     }
     forces

@@ -98,9 +98,21 @@ pub fn both_too_thick(
     steel: &SteelStrengths,
     bolt: &BoltStrengths,
 ) -> bool {
-    let most = 10000 * bolt.diameter * bolt.diameter * bolt.ultimate;
-    let too_thick = |thickness: u32, strength: u64| 361 * square(thickness) * strength > most;
-    too_thick(column.flange, steel.column) && too_thick(plate.thickness, steel.plate)
+    let breaks = |thickness: u32, strength: u64| {
+        bolts_break_first(bolt.diameter, bolt.ultimate, thickness, strength)
+    };
+    breaks(column.flange, steel.column) && breaks(plate.thickness, steel.plate)
+}
+
+fn bolts_break_first(diameter: u64, ultimate: u64, thickness: u32, strength: u64) -> bool {
+    361 * square(thickness) * strength > 10000 * diameter * diameter * ultimate
+}
+
+/// Whether a column flange or a plate of this grade is too thick for the bolts.
+pub fn is_too_thick(bolts: &Bolts, grade: u32, thickness: u32) -> bool {
+    let (_, _, _, ultimate) = bolt_class(bolts.class);
+    let strength = steel(grade, thickness);
+    bolts_break_first(u64::from(bolts.diameter), ultimate, thickness, strength)
 }
 
 pub fn square(length: u32) -> u64 {

@@ -5,7 +5,7 @@ use crate::compression::{governing, panel_passes, panel_shear, Faces};
 use crate::joint::{Bolts, Column, Face, Joint, ROWS};
 use crate::outcome::{FaceResult, JointResult, OtherResult, Trouble, WorkRefusal};
 use crate::range::first_outside;
-use crate::sharing::{share, share_in_triangle};
+use crate::sharing::{share, share_in_triangle, GROUPS};
 use crate::strength::{both_too_thick, BoltStrengths, SteelStrengths};
 use crate::tension::{group_limits, Distances};
 use crate::verdict::verdicts;
@@ -98,8 +98,8 @@ fn work_face(
     })
 }
 
-/// The cap is one more limit on all rows together. Where column flange and plate are both too thick, the rows below the first one
-/// under the beam flange go by the triangle.
+/// Where column flange and plate are both too thick, the rows below the first one under the beam flange go by the triangle.
+#[inline(always)]
 fn row_forces(
     column: &Column,
     bolt: &BoltStrengths,
@@ -109,13 +109,46 @@ fn row_forces(
     cap: u64,
 ) -> [u64; ROWS] {
     let rows = face.row_count();
-    let mut limits = group_limits(column, bolt, face, steel, distances);
-    limits[rows - 1] = limits[rows - 1].min(cap);
+    let limits = capped_limits(column, bolt, face, steel, distances, cap);
     if both_too_thick(column, &face.plate, steel, bolt) {
         share_in_triangle(rows, &limits, face.row_under_flange(), &face.levers)
     } else {
         share(rows, &limits)
     }
+}
+
+/// The cap is one more limit on all rows together.
+#[inline(always)]
+fn capped_limits(
+    column: &Column,
+    bolt: &BoltStrengths,
+    face: &Face,
+    steel: &SteelStrengths,
+    distances: &Distances,
+    cap: u64,
+) -> [u64; GROUPS] {
+    let mut limits = group_limits(column, bolt, face, steel, distances);
+    let all_rows = face.row_count() - 1;
+    limits[all_rows] = limits[all_rows].min(cap);
+    limits
+}
+
+/// What the rows of a face that isn't refused, with this cap, would get without added limits: for telling what the triangle did.
+pub fn forces_without_triangle(
+    table: &BoltTable,
+    column: &Column,
+    bolts: &Bolts,
+    face: &Face,
+    cap: u64,
+) -> [u64; ROWS] {
+    let area = table
+        .area_of(bolts.diameter)
+        .expect("a size that is worked");
+    let bolt = BoltStrengths::of(bolts, area);
+    let steel = SteelStrengths::of(column, face);
+    let distances = Distances::of(column, face).expect("room that is worked");
+    let limits = capped_limits(column, &bolt, face, &steel, &distances, cap);
+    share(face.row_count(), &limits)
 }
 
 /// Refusal 11: each row's lever is below that of the row above it.

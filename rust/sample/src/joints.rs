@@ -3,8 +3,8 @@
 use crate::random::Random;
 use crate::two_faces::{any_two_faced_joint, unread_face};
 use reference::{
-    minimum_pitch, work, Beam, BoltTable, Bolts, Column, Face, Joint, Layout, Loads, Plate, Welds,
-    ONE_FACED_FIELDS,
+    is_too_thick, minimum_pitch, work, Beam, BoltTable, Bolts, Column, Face, Joint, Layout, Loads,
+    Plate, Welds, ONE_FACED_FIELDS,
 };
 
 /// The ends of fields 8 to 20, 22 to 26 and 30, which are plain ranges.
@@ -146,14 +146,33 @@ fn loads(random: &mut Random) -> Loads {
     }
 }
 
-/// A sensible joint that Work does not refuse.
+/// A sensible joint that Work does not refuse, its rows not by the triangle.
 pub fn worked_joint(random: &mut Random, table: &BoltTable, rows: u32) -> Joint {
     loop {
         let joint = sensible_joint(random, table, rows);
-        if work(table, &joint).is_ok() {
+        if work(table, &joint).is_ok() && !goes_by_triangle(&joint, &joint.face) {
             return joint;
         }
     }
+}
+
+/// A sensible joint that Work does not refuse, its rows by the triangle.
+pub fn worked_joint_in_triangle(random: &mut Random, table: &BoltTable, rows: u32) -> Joint {
+    loop {
+        let mut joint = sensible_joint(random, table, rows);
+        thicken_flange(random, &mut joint);
+        thicken_plate(random, &joint.bolts, &mut joint.face);
+        if work(table, &joint).is_ok() && goes_by_triangle(&joint, &joint.face) {
+            return joint;
+        }
+    }
+}
+
+/// Column flange and the face's plate are both too thick for the bolts.
+pub fn goes_by_triangle(joint: &Joint, face: &Face) -> bool {
+    let Joint { column, bolts, .. } = joint;
+    is_too_thick(bolts, column.grade, column.flange)
+        && is_too_thick(bolts, face.plate.grade, face.plate.thickness)
 }
 
 /// With one face or two, and mostly with bolts of the table, which is one that loading takes.
@@ -169,6 +188,10 @@ pub fn any_joint(random: &mut Random, table: &BoltTable) -> Joint {
 fn any_one_faced_joint(random: &mut Random, table: &BoltTable) -> Joint {
     let rows = random.between(1, 8);
     let mut joint = sensible_joint(random, table, rows);
+    if random.one_in(3) {
+        thicken_flange(random, &mut joint);
+        thicken_plate(random, &joint.bolts, &mut joint.face);
+    }
     match random.below(24) {
         0..=6 => trouble(random, table, &mut joint),
         7 => compress(random, table, &mut joint),
@@ -181,16 +204,15 @@ fn any_one_faced_joint(random: &mut Random, table: &BoltTable) -> Joint {
     joint
 }
 
-/// A field at or past an end of its range, rows out of order, too close or out of place, bolts too tight, or parts too thick.
+/// A field at or past an end of its range, rows out of order, too close or out of place, or bolts too tight.
 pub fn trouble(random: &mut Random, table: &BoltTable, joint: &mut Joint) {
-    match random.below(8) {
+    match random.below(7) {
         0 | 1 => shift_field(random, table, joint, false),
         2 => shift_field(random, table, joint, true),
         3 => swap_levers(random, &mut joint.face),
         4 => close_up(random, joint.bolts.diameter, &mut joint.face),
         5 => move_row(random, &mut joint.face),
-        6 => tighten(random, joint),
-        _ => thicken(random, joint),
+        _ => tighten(random, joint),
     }
 }
 
@@ -375,24 +397,28 @@ fn tighten(random: &mut Random, joint: &mut Joint) {
     }
 }
 
-/// Flange and plate both about as thick as the bolts allow.
-fn thicken(random: &mut Random, joint: &mut Joint) {
-    let ultimate = match joint.bolts.class {
-        46 => 400,
-        88 => 800,
-        _ => 1000,
-    };
-    let square = 10000 * u64::from(joint.bolts.diameter).pow(2) * ultimate;
-    let thickness = |random: &mut Random, grade: u32, least: u32| {
-        let strength = grade - random.pick(&[0, 10, 20]);
-        let most = (square / (361 * u64::from(strength))).isqrt() as u32;
-        (most + random.between(0, 3))
-            .saturating_sub(1)
-            .clamp(least, 500)
-    };
-    joint.column.flange = thickness(random, joint.column.grade, 40);
-    let plate = &mut joint.face.plate;
-    plate.thickness = thickness(random, plate.grade, 60);
+/// A column flange that is mostly too thick for the bolts, often by no more than it must be, and now and then just isn't.
+pub fn thicken_flange(random: &mut Random, joint: &mut Joint) {
+    let column = &mut joint.column;
+    column.flange = thick(random, &joint.bolts, column.grade, 40);
+}
+
+/// The same of a plate.
+pub fn thicken_plate(random: &mut Random, bolts: &Bolts, face: &mut Face) {
+    let plate = &mut face.plate;
+    plate.thickness = thick(random, bolts, plate.grade, 60);
+}
+
+/// From the first thickness of `least` to 500 that is too thick, or one step less.
+fn thick(random: &mut Random, bolts: &Bolts, grade: u32, least: u32) -> u32 {
+    let edge = (least..=500)
+        .find(|&thickness| is_too_thick(bolts, grade, thickness))
+        .unwrap_or(500);
+    match random.below(6) {
+        0 => edge.max(least + 1) - 1,
+        1 | 2 => edge,
+        _ => random.between(edge, 500),
+    }
 }
 
 /// N about at the governing force.
@@ -433,6 +459,36 @@ mod tests {
     use super::*;
     use reference::BUILT_IN;
     use std::cmp::Ordering;
+
+    /// A good share of the worked joints of each row count, flush and extended.
+    #[test]
+    fn many_joints_go_by_the_triangle() {
+        let mut random = Random::new(8);
+        let mut counts = [[0; 8]; 2];
+        let mut one_thick = 0;
+        for _ in 0..12_000 {
+            let joint = any_one_faced_joint(&mut random, &BUILT_IN);
+            let Joint {
+                column,
+                bolts,
+                face,
+                ..
+            } = &joint;
+            if work(&BUILT_IN, &joint).is_err() {
+                continue;
+            }
+            if goes_by_triangle(&joint, face) {
+                counts[face.extended as usize][face.row_count() - 1] += 1;
+            } else if is_too_thick(bolts, column.grade, column.flange) {
+                one_thick += 1;
+            }
+        }
+        assert!(
+            counts.as_flattened().iter().all(|&count| count > 50),
+            "{counts:?}"
+        );
+        assert!(one_thick > 500, "{one_thick}");
+    }
 
     /// Mostly by 25δ or more, often by no more than that, and now and then by less.
     #[test]

@@ -10,7 +10,9 @@ mod streams;
 mod two_faces;
 
 pub use bolt_tables::{any_bolt_table, good_bolt_table};
-pub use joints::{any_joint, sensible_joint, worked_joint};
+pub use joints::{
+    any_joint, goes_by_triangle, sensible_joint, worked_joint, worked_joint_in_triangle,
+};
 pub use limit_tables::{any_raise, falling_levers, limit_table, LimitTable};
 pub use own_bolts::any_joint_with_own_table;
 pub use random::Random;

@@ -1,6 +1,9 @@
 //! Random joints with a beam on both faces of the column, and second faces that no call may look at.
 
-use crate::joints::{face, gauge, near, place_rows, scatter, sensible_joint, trouble};
+use crate::joints::{
+    face, gauge, goes_by_triangle, near, place_rows, scatter, sensible_joint, thicken_flange,
+    thicken_plate, trouble,
+};
 use crate::random::Random;
 use reference::{panel_shear, work, BoltTable, Face, Joint, FIELDS, SECOND_FACE};
 
@@ -25,13 +28,26 @@ fn thin_plate(random: &mut Random, joint: &Joint, other: &mut Face) {
     }
 }
 
-/// A sensible joint with two faces that Work does not refuse.
+/// A sensible joint with two faces that Work does not refuse, the rows of neither by the triangle.
 pub fn worked_two_faced_joint(random: &mut Random, table: &BoltTable, rows: [u32; 2]) -> Joint {
     loop {
         let joint = sensible_two_faced_joint(random, table, rows);
-        if work(table, &joint).is_ok() {
+        let mut faces = [joint.face, joint.other].into_iter();
+        if work(table, &joint).is_ok() && !faces.any(|face| goes_by_triangle(&joint, &face)) {
             return joint;
         }
+    }
+}
+
+/// The column flange about at the edge of being too thick for the bolts or past it, and the plate of either face, or of both.
+fn thicken(random: &mut Random, joint: &mut Joint) {
+    thicken_flange(random, joint);
+    let which = random.below(3);
+    if which != 0 {
+        thicken_plate(random, &joint.bolts, &mut joint.face);
+    }
+    if which != 1 {
+        thicken_plate(random, &joint.bolts, &mut joint.other);
     }
 }
 
@@ -40,6 +56,9 @@ pub fn worked_two_faced_joint(random: &mut Random, table: &BoltTable, rows: [u32
 pub fn any_two_faced_joint(random: &mut Random, table: &BoltTable) -> Joint {
     let rows = [random.between(1, 8), random.between(1, 8)];
     let mut joint = sensible_two_faced_joint(random, table, rows);
+    if random.one_in(3) {
+        thicken(random, &mut joint);
+    }
     match random.below(24) {
         0..=2 => trouble_first(random, table, &mut joint),
         3..=6 => trouble_second(random, table, &mut joint),
