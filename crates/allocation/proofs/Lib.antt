@@ -3,3 +3,4 @@ pub mod Bound
 pub mod Counting
 pub mod Raising
 pub mod Rows
+pub mod InTriangle

@@ -4,21 +4,21 @@
 use mathlib.Core.Path.{◌≡◌, refl, sym, ap, ap₂, ◌∙◌}
 use mathlib.Core.Logic.{⊎_elim}
 use Prim.Native.Nat.{ℕ, zero, suc, ◌+◌, ◌-◌, ◌≤◌, ◌<◌, min}
-use native.Mathlib.Nat.{sub-zero, le_refl, le_trans, le_antisymm, le-min, min-le_left, min-le_right, le-suc_iff}
+use native.Mathlib.Nat.{le_of_eq, eq-or-lt_of_le, le_refl, le_trans, le_antisymm, le-min, min-le_left, min-le_right, le-suc_iff}
 use native.Mathlib.Omega.{arith}
 use native.Mathlib.Numerals.{add-one}
 use mathlib.Core.List.{List, [], ◌∷◌, ◌++◌}
 use lib.ListN.{length, get_or, set, take, drop, replicate, get_or-replicate}
 use lib.Seq.{set_at, append_snoc}
-use mathlib.Core.List.{append-nil}
 use Rattle.std.proofs.Common.{length-drop, drop-drop}
-use Rattle.std.proofs.lemmas.List.{take-replicate, drop-replicate, length-take-le, get_or-take, get_or-drop}
+use Rattle.std.proofs.lemmas.List.{length-take-le, get_or-take, get_or-drop}
 use Rattle.sharing.specs.Groups.{Table, total, groups_above, place_of, listed, most_limit}
 use Rattle.sharing.proofs.Places.{groups_inside}
 use Rattle.sharing.proofs.Totals.{total-append}
 use Rattle.sharing.specs.Sharing.{lowered, next_force, forces_down_to, shared}
-use Rattle.sharing.proofs.Lowering.{lowered_le}
+use Rattle.sharing.proofs.Lowering.{lowered_le, lowered_last, lowered_next}
 use Rattle.sharing.proofs.Sums.{sum_down_to, length_forces, sum_step, sum_le, le_sum}
+use Rattle.joint.specs.Ranges.{row_counts}
 use Rattle.joint.specs.Places.{eight_places}
 use Rattle.sharing.proofs.Agreement.{lowered_agrees}
 use Rattle.allocation.specs.Steps.{Shareable, own_table, Countable, Counted}
@@ -28,14 +28,20 @@ unfoldable pub allowed : Table → ℕ → ℕ → ℕ → ℕ
 allowed limit n zero k = most_limit
 allowed limit n (suc r) k = min (allowed limit n r k) (sum_down_to limit n r + lowered limit n r k)
 
--- How things stand when `row` rows have their forces; `forces` are the rows' places.
-pub record SharedDownTo (n : ℕ) (limits : List ℕ) (forces sums : List ℕ) (above : ℕ) (rest : List ℕ) (row : ℕ) : Type 0 where
+-- A table of the list's limits, of which those of single rows may be lower.
+pub record RowsLowered (n : ℕ) (limits : List ℕ) (table : Table) : Type 0 where
+  pub longer : (i j : ℕ) → i < j → j < n → table i j ≡ listed n limits i j
+  pub single : (row : ℕ) → row < n → table row row ≤ listed n limits row row
+
+-- How things stand when `row` rows have their forces.
+pub record SharedDownTo (n : ℕ) (limits : List ℕ) (table : Table) (forces sums : List ℕ) (above : ℕ) (rest : List ℕ) (row : ℕ)
+    : Type 0 where
   pub rows : row ≤ n
   pub place : rest ≡ drop (groups_above n row) limits
-  pub sum : above ≡ sum_down_to (listed n limits) n row
-  pub got : forces ≡ forces_down_to (listed n limits) n row ++ replicate (n - row) 0
-  pub size : length sums ≡ 8
-  pub left : (k : ℕ) → row ≤ k → k < n → get_or sums k 0 ≡ allowed (listed n limits) n row k
+  pub sum : above ≡ sum_down_to table n row
+  pub got : forces ≡ forces_down_to table n row ++ replicate (row_counts.high - row) 0
+  pub size : length sums ≡ row_counts.high
+  pub left : (k : ℕ) → row ≤ k → k < n → get_or sums k 0 ≡ allowed table n row k
 
 -- no number of a list is above their sum, and places that are 0 add nothing
 at_most_total : (xs : List ℕ) (k : ℕ) → get_or xs k 0 ≤ total xs
@@ -53,26 +59,29 @@ fill : (got : List ℕ) (row empty value : ℕ) → length got ≡ row
 fill got row empty value e =
     set_at got 0 (replicate empty 0) value row e ∙ sym (append_snoc got value (replicate empty 0))
 
-module _ (n : ℕ) (limits : List ℕ) (s : Shareable n limits) where
-  limit_le : (i j : ℕ) → i ≤ j → j < n → listed n limits i j ≤ most_limit
-  unfolding listed
-  limit_le i j h inside = s.bounded (place_of n i j) (omega (arith, groups_inside n i (omega arith)))
+pub limit_le_most : (n : ℕ) (limits : List ℕ) → Shareable n limits → (i j : ℕ) → i ≤ j → j < n → listed n limits i j ≤ most_limit
+unfolding listed
+limit_le_most n limits s i j h inside = s.bounded (place_of n i j) (omega (arith, groups_inside n i (omega arith)))
 
-  pub sum_le_most : (k : ℕ) → k ≤ n → sum_down_to (listed n limits) n k ≤ most_limit
+module _ (n : ℕ) (limits : List ℕ) (s : Shareable n limits) (table : Table) (t : RowsLowered n limits table) where
+  table_le : (i j : ℕ) → i ≤ j → j < n → table i j ≤ listed n limits i j
+  table_le i j h inside =
+      ⊎_elim (λ same. rw (← same) (t.single i (omega arith))) (λ longer. le_of_eq (t.longer i j longer inside)) (eq-or-lt_of_le h)
+
+  pub sum_le_most : (k : ℕ) → k ≤ n → sum_down_to table n k ≤ most_limit
   unfolding sum_down_to forces_down_to
   sum_le_most zero h = omega arith
   sum_le_most (suc k) h =
-      let limit = listed n limits in
-      omega (arith, sum_le limit n k 0 h (omega arith), lowered_le limit n 0 k, limit_le 0 k (omega arith) h)
+      omega (arith, sum_le table n k 0 h (omega arith), lowered_le table n 0 k, table_le 0 k (omega arith) h, limit_le_most n limits s 0 k (omega arith) h)
 
   -- the groups down to row r allow the shared sum
-  sum_le_allowed : (k r : ℕ) → r ≤ suc k → k < n → sum_down_to (listed n limits) n (suc k) ≤ allowed (listed n limits) n r k
+  sum_le_allowed : (k r : ℕ) → r ≤ suc k → k < n → sum_down_to table n (suc k) ≤ allowed table n r k
   unfolding allowed
   sum_le_allowed k zero h inside = sum_le_most (suc k) inside
   sum_le_allowed k (suc r) h inside =
-      le-min (sum_le_allowed k r (omega arith) inside) (sum_le (listed n limits) n k r inside (omega arith))
+      le-min (sum_le_allowed k r (omega arith) inside) (sum_le table n k r inside (omega arith))
 
-  allowed_le : (k r i : ℕ) → i < r → allowed (listed n limits) n r k ≤ sum_down_to (listed n limits) n i + lowered (listed n limits) n i k
+  allowed_le : (k r i : ℕ) → i < r → allowed table n r k ≤ sum_down_to table n i + lowered table n i k
   unfolding allowed
   allowed_le k zero i h = absurd (omega arith)
   allowed_le k (suc r) i h =
@@ -82,37 +91,37 @@ module _ (n : ℕ) (limits : List ℕ) (s : Shareable n limits) where
       (le-suc_iff.0 h)
 
   -- all its groups allow no more
-  allowed_is_sum : (k : ℕ) → k < n → allowed (listed n limits) n (suc k) k ≡ sum_down_to (listed n limits) n (suc k)
+  allowed_is_sum : (k : ℕ) → k < n → allowed table n (suc k) k ≡ sum_down_to table n (suc k)
   allowed_is_sum k inside =
       le_antisymm
-      (le_sum (listed n limits) n k _ (λ i h. allowed_le k (suc k) i (omega arith)))
+      (le_sum table n k _ (λ i h. allowed_le k (suc k) i (omega arith)))
       (sum_le_allowed k (suc k) (le_refl (suc k)) inside)
 
-  -- as many places are lent as there are rows
-  turns : length (take n (replicate {A = ℕ} 8 0)) ≡ n
-  turns = length-take-le n (replicate {A = ℕ} 8 0) s.rows
-
-  pub start : SharedDownTo n limits (take n (replicate 8 0)) (replicate 8 most_limit) 0 limits 0
+  pub start : SharedDownTo n limits table (replicate 8 0) (replicate 8 most_limit) 0 limits 0
   unfolding sum_down_to forces_down_to groups_above allowed
   start =
       record {
         rows = omega arith;
         place = refl;
         sum = refl;
-        got =
-            let zero-places : take n (replicate {A = ℕ} 8 0) ≡ replicate n 0 = take-replicate {X = ℕ} n 8 0 s.rows in
-            zero-places ∙ ap (λ m. replicate m 0) (sym (sub-zero n));
+        got = refl;
         size = refl;
         left = λ k h inside. get_or-replicate 8 k most_limit 0 (omega (arith, s.rows));
       }
 
-  module _ (forces sums : List ℕ) (above : ℕ) (rest : List ℕ) (row : ℕ) (d : SharedDownTo n limits forces sums above rest row)
-      (more : row < length (take n (replicate {A = ℕ} 8 0))) where
-    inside : row < n
-    inside = omega (arith, more, turns)
-
+  module _ (forces sums : List ℕ) (above : ℕ) (rest : List ℕ) (row : ℕ) (d : SharedDownTo n limits table forces sums above rest row)
+      (inside : row < n) where
     pub rest_length : n - row ≤ length rest
     rest_length = omega (arith, ap length d.place, length-drop (groups_above n row) limits, groups_inside n row inside, s.enough)
+
+    -- no force is too large yet
+    pub forces_le_most : (k : ℕ) → get_or forces k 0 ≤ most_limit
+    unfolding sum_down_to
+    forces_le_most k =
+        rw d.got
+        (let got = forces_down_to table n row in
+        let empty : List ℕ = replicate (row_counts.high - row) 0 in
+        omega (arith, sum_le_most row d.rows, at_most_total (got ++ empty) k, total-append got empty, total_zeros (row_counts.high - row)))
 
     module _ (own : List ℕ) (e : own ≡ take (n - row) rest) where
       -- the limits of the groups that begin at the row are the first of those that are left
@@ -132,63 +141,90 @@ module _ (n : ℕ) (limits : List ℕ) (s : Shareable n limits) where
         bounded = λ k h.
             let along : row + k - row ≡ k = omega arith in
             let limit = rw along at (own_limit (row + k) (omega arith) (omega arith)) in
-            rw limit (limit_le row (row + k) (omega arith) (omega arith));
+            rw limit (limit_le_most n limits s row (row + k) (omega arith) (omega arith));
         small = omega (arith, d.sum, sum_le_most row d.rows);
       }
 
-      module _ (sums' : List ℕ) (c : Counted (own_table own row) n row above row sums sums') where
-        counted_is_allowed : (k : ℕ) → row ≤ k → k < n → get_or sums' k 0 ≡ allowed (listed n limits) n (suc row) k
+      module _ (sums' : List ℕ) (c : Counted (own_table own row) n row above row sums sums') (most : ℕ)
+          (lower : table row row ≡ min (listed n limits row row) most) where
+        -- a longer group's lowered limit is the list's
+        longer_lowered : (k : ℕ) → row < k → k < n → lowered (own_table own row) n row k ≡ lowered table n row k
+        longer_lowered k h under =
+            lowered_agrees (own_table own row) table n row k under
+            (λ last hl under_n. own_limit last (omega arith) under_n ∙ sym (t.longer row last (omega arith) under_n))
+
+        counted_is_allowed : (k : ℕ) → row < k → k < n → get_or sums' k 0 ≡ allowed table n (suc row) k
         unfolding allowed
         counted_is_allowed k h under =
-            let same = lowered_agrees (own_table own row) (listed n limits) n row k under (λ last hl under_n. own_limit last (omega arith) under_n) in
-            c.counted k h under ∙ λ i. min (d.left k h under i) (d.sum i + same i)
+            c.counted k (omega arith) under ∙ λ i. min (d.left k (omega arith) under i) (d.sum i + longer_lowered k h under i)
 
-        pub down : get_or sums' row 0 ≡ sum_down_to (listed n limits) n (suc row)
-        down = counted_is_allowed row (le_refl row) inside ∙ allowed_is_sum row inside
+        -- the row's own is lower by the most that it gets
+        own_lowered : lowered table n row row ≡ min (lowered (own_table own row) n row row) most
+        own_lowered =
+            let limit = own_limit row (le_refl row) inside in
+            ⊎_elim
+            (λ last. omega (arith, lowered_last table n row row last, lowered_last (own_table own row) n row row last, limit, lower))
+            (λ longer.
+            omega (
+              arith,
+              lowered_next table n row row longer,
+              lowered_next (own_table own row) n row row longer,
+              limit,
+              lower,
+              longer_lowered (suc row) (omega arith) longer,
+            ))
+            (eq-or-lt_of_le inside)
+
+        down : min (get_or sums' row 0) (above + most) ≡ sum_down_to table n (suc row)
+        unfolding allowed
+        down =
+            omega (arith, allowed_is_sum row inside, c.counted row (le_refl row) inside, d.left row (le_refl row) inside, d.sum, own_lowered)
 
         pub down_grows : above ≤ get_or sums' row 0
-        down_grows = omega (arith, d.sum, down, sum_step (listed n limits) n row)
+        down_grows = omega (arith, d.sum, down, sum_step table n row)
 
-        force : get_or sums' row 0 - above ≡ next_force (listed n limits) n (forces_down_to (listed n limits) n row)
-        force = omega (arith, d.sum, down, sum_step (listed n limits) n row)
+        force : min (get_or sums' row 0 - above) most ≡ next_force table n (forces_down_to table n row)
+        force = omega (arith, d.sum, down, down_grows, sum_step table n row)
 
-        stored : set forces row (get_or sums' row 0 - above) ≡ forces_down_to (listed n limits) n (suc row) ++ replicate (n - suc row) 0
+        pub down_small : above + min (get_or sums' row 0 - above) most ≤ most_limit
+        down_small = omega (arith, down, down_grows, sum_le_most (suc row) inside)
+
+        stored : set forces row (min (get_or sums' row 0 - above) most)
+            ≡ forces_down_to table n (suc row) ++ replicate (row_counts.high - suc row) 0
         unfolding forces_down_to
         stored =
-            let places : n - row ≡ suc (n - suc row) = omega (arith, inside) in
-            ap₂ (λ xs x. set xs row x) (d.got ∙ ap (λ m. forces_down_to (listed n limits) n row ++ replicate m 0) places) force
-            ∙ fill (forces_down_to (listed n limits) n row) row (n - suc row)
-            (next_force (listed n limits) n (forces_down_to (listed n limits) n row))
-            (length_forces (listed n limits) n row)
+            let places : row_counts.high - row ≡ suc (row_counts.high - suc row) = omega (arith, inside, s.rows) in
+            ap₂ (λ xs x. set xs row x) (d.got ∙ ap (λ m. forces_down_to table n row ++ replicate m 0) places) force
+            ∙ fill (forces_down_to table n row) row (row_counts.high - suc row) (next_force table n (forces_down_to table n row))
+            (length_forces table n row)
 
-        pub turn : SharedDownTo n limits (set forces row (get_or sums' row 0 - above)) sums' (get_or sums' row 0) (drop (n - row) rest) (row + 1)
+        pub turn : (got : ℕ) → got ≡ min (get_or sums' row 0 - above) most
+            → SharedDownTo n limits table (set forces row got) sums' (above + got) (drop (n - row) rest) (row + 1)
         unfolding groups_above
-        turn =
-            rw (add-one row)
+        turn got e =
+            rw (add-one row, e)
             (record {
               rows = inside;
               place = ap (drop (n - row)) d.place ∙ drop-drop (n - row) (groups_above n row) limits;
-              sum = down;
+              sum = omega (arith, down, down_grows);
               got = stored;
               size = c.size ∙ d.size;
-              left = λ k h under. counted_is_allowed k (omega arith) under;
+              left = λ k h under. counted_is_allowed k h under;
             })
 
   -- places past the last row are 0
-  pub finish : (forces sums : List ℕ) (above : ℕ) (rest : List ℕ) (row : ℕ) → SharedDownTo n limits forces sums above rest row
-      → length (take n (replicate {A = ℕ} 8 0)) ≤ row → forces ++ drop n (replicate 8 0) ≡ eight_places (shared (listed n limits) n)
+  pub finish : (forces sums : List ℕ) (above : ℕ) (rest : List ℕ) (row : ℕ) → SharedDownTo n limits table forces sums above rest row
+      → n ≤ row → forces ≡ eight_places (shared table n)
   unfolding eight_places shared
   finish forces sums above rest row d past =
-      let all : row ≡ n = omega (arith, d.rows, turns) in
-      let none : n - row ≡ 0 = omega (arith, all) in
-      let got : forces ≡ forces_down_to (listed n limits) n n = d.got ∙ (rw (none, all) (append-nil _)) in
-      rw (got, drop-replicate {X = ℕ} n 8 0, length_forces (listed n limits) n n)
+      let all : row ≡ n = omega (arith, d.rows) in
+      (rw all at d.got) ∙ ap (λ m. forces_down_to table n n ++ replicate (row_counts.high - m) 0) (sym (length_forces table n n))
 
   -- no place has more than Allocate takes
-  pub force_le_most : (k : ℕ) → get_or (eight_places (shared (listed n limits) n)) k 0 ≤ most_limit
+  pub force_le_most : (k : ℕ) → get_or (eight_places (shared table n)) k 0 ≤ most_limit
   unfolding eight_places shared sum_down_to
   force_le_most k =
-      let forces = forces_down_to (listed n limits) n n in
-      let empty : List ℕ = replicate (8 - length forces) 0 in
+      let forces = forces_down_to table n n in
+      let empty : List ℕ = replicate (row_counts.high - length forces) 0 in
       let sum = sum_le_most n (le_refl n) in
-      omega (arith, at_most_total (forces ++ empty) k, total-append forces empty, total_zeros (8 - length forces))
+      omega (arith, at_most_total (forces ++ empty) k, total-append forces empty, total_zeros (row_counts.high - length forces))

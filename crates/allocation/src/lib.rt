@@ -5,11 +5,10 @@
 ghost use Rattle.std.specs.Prelude.{◌≡◌, take, IfOk};
 ghost use Rattle.joint.specs.Places.{eight_places};
 ghost use Rattle.sharing.specs.Groups.{listed, most_limit};
-ghost use Rattle.sharing.specs.Sharing.{shared};
 ghost use Rattle.sharing.specs.Best.{Best};
 ghost use Rattle.allocation.specs.Allocation.{none_above, allocated};
 ghost use Rattle.allocation.specs.Answers.{number_of, allocation_meaning};
-ghost use Rattle.allocation.specs.Steps.{Shareable, own_table, Countable, Counted};
+ghost use Rattle.allocation.specs.Steps.{Shareable, TriangleFits, shared_by, MostAsked, most_by, own_table, Countable, Counted};
 
 // No limit above this is taken: refusal 8.
 const MOST: u64 = 4_000_000_000;
@@ -49,7 +48,7 @@ pub fn allocate(count: usize, limits: &[u64]) -> Result<[u64; 8], LimitsRefusal>
     if !none_above_most(&limits[..groups]) {
         return Err(LimitsRefusal::LimitTooLarge);
     }
-    Ok(share(count, limits))
+    Ok(share(count, limits, None))
 }
 
 // No limit is above the most that is taken.
@@ -59,23 +58,47 @@ fn none_above_most(limits: &[u64]) -> bool
     limits.iter().all(|limit| *limit <= MOST)
 }
 
-// The sharing itself. Open for Work, which has shown that there is a limit for each group and none too large.
-pub fn share(count: usize, limits: &[u64]) -> [u64; 8]
-    requires { Shareable count limits.now }
-    ensures { result ≡ eight_places (shared (listed count limits.now) count) }
+// P207's triangle: each row below the reference row gets no more than that row's force, by the ratio of their levers.
+#[derive(Clone, Copy)]
+pub struct Triangle<'a> {
+    // one for each row
+    pub levers: &'a [u32],
+    pub reference: usize,
+}
+
+// The sharing itself, in a triangle or without. Open for Work, which has shown that there is a limit for each group and none too large.
+pub fn share(count: usize, limits: &[u64], triangle: Option<Triangle>) -> [u64; 8]
+    requires { Shareable count limits.now × TriangleFits count triangle }
+    ensures { result ≡ eight_places (shared_by triangle.entry (listed count limits.now) count) }
 {
     let mut forces = [0u64; 8];
     let mut sums = [MOST; 8];
     let mut above = 0;
     let mut rest = limits;
-    for (row, force) in forces[..count].iter_mut().enumerate() {
+    for row in 0..count {
         let (own, further) = rest.split_at(count - row);
         count_groups(&mut sums, own, row, count, above);
-        *force = sums[row] - above;
-        above = sums[row];
+        let force = (sums[row] - above).min(most_in(triangle, &forces, row));
+        forces[row] = force;
+        above += force;
         rest = further;
     }
     forces
+}
+
+// The most that the triangle leaves a row, by the forces of those above it.
+fn most_in(triangle: Option<Triangle>, forces: &[u64; 8], row: usize) -> u64
+    requires { MostAsked triangle forces.now row }
+    ensures { result ≡ most_by triangle.entry forces.now row }
+{
+    let Some(triangle) = triangle else {
+        return MOST;
+    };
+    let reference = triangle.reference;
+    if row <= reference {
+        return MOST;
+    }
+    forces[reference] * u64::from(triangle.levers[row]) / u64::from(triangle.levers[reference])
 }
 
 // Counts the groups that begin at `row` into the sums from the top. From the longest group to the shortest, so that each limit is lowered

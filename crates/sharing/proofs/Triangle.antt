@@ -9,11 +9,12 @@ use native.Mathlib.Nat.{le_refl, le_trans, min-le_left, le-min}
 use native.Mathlib.Omega.{arith}
 use mathlib.Core.List.{List, [], ◌∷◌}
 use lib.ListN.{get_or, take}
+use lib.Seq.{get_or-take}
 use lib.Dec.{eqb, ltb}
 use borrow.Author.Tests.{eq-eqb, eqb-true, lt-ltb, ltb-true}
 use Rattle.sharing.specs.Groups.{Table, total, group_sum}
-use Rattle.sharing.specs.Sharing.{Competes}
-use Rattle.sharing.specs.Triangle.{added_limit, with_triangle, shared_in_triangle, KeepsTriangle, ReferenceStays, NoneBelowReference}
+use Rattle.sharing.specs.Sharing.{shared, Competes}
+use Rattle.sharing.specs.Triangle.{added_limit, with_triangle, reference_force, shared_in_triangle, KeepsTriangle, ReferenceStays, NoneBelowReference}
 use Rattle.sharing.proofs.Totals.{above_and_group}
 use Rattle.sharing.proofs.Agreement.{rows_agree, shared_agrees}
 
@@ -56,6 +57,13 @@ module _ (levers : List ℕ) (reference force : ℕ) (limit : Table) where
 
   pub reference_stays : (n : ℕ) → ReferenceStays levers reference force limit n
   reference_stays n k above = rows_agree lower limit n k (λ i j early h inside. triangle_elsewhere i j (λ below same. omega arith))
+
+  -- so its force is the same in both sharings
+  pub reference_force_stays : (n : ℕ) → get_or (shared lower n) reference 0 ≡ reference_force reference limit n
+  reference_force_stays n =
+      sym (get_or-take (suc reference) (shared lower n) reference 0 (omega arith))
+      ∙ ap (λ xs. get_or xs reference 0) (reference_stays n (suc reference) (omega arith))
+      ∙ get_or-take (suc reference) (shared limit n) reference 0 (omega arith)
 
   module _ (n : ℕ) (forces : List ℕ) where
     le_triangle : Competes limit n forces → KeepsTriangle levers reference force n forces → (i j : ℕ) → i ≤ j → j < n
