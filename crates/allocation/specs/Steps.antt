@@ -3,9 +3,9 @@
 use Rattle.std.specs.Prelude.{◌≡◌, ℕ, ◌+◌, ◌-◌, ◌≤◌, ◌<◌, min, cond, List, length, get_or, ltb, Option, None, Some, IfSome}
 use Rattle.joint.specs.Ranges.{row_counts, most_lever}
 use Rattle.sharing.specs.Groups.{Table, group_count, most_limit}
-use Rattle.sharing.specs.Sharing.{lowered, shared}
-use Rattle.sharing.specs.Triangle.{added_limit, shared_in_triangle}
-use Rattle.allocation.specs.declared.Triangle.{Triangle}
+use Rattle.sharing.specs.Sharing.{lowered}
+use Rattle.sharing.specs.Triangle.{Triangle, added_limit}
+use Rattle.allocation.specs.declared.LentTriangle.{LentTriangle}
 
 -- At most eight rows, a limit for each group, and none so large that a sum could not be held.
 pub record Shareable (n : ℕ) (limits : List ℕ) : Type 0 where
@@ -13,34 +13,34 @@ pub record Shareable (n : ℕ) (limits : List ℕ) : Type 0 where
   pub enough : group_count n ≤ length limits
   pub bounded : (k : ℕ) → k < group_count n → get_or limits k 0 ≤ most_limit
 
--- the forces of n rows, in a triangle or without
-abbrev pub shared_by : Option Triangle → Table → (n : ℕ) → List ℕ
-shared_by None limit n = shared limit n
-shared_by (Some triangle) limit n = shared_in_triangle triangle.levers.now triangle.reference limit n
+-- a triangle whose levers are lent, or none
+abbrev pub triangle_of : Option LentTriangle → Option Triangle
+triangle_of None = None
+triangle_of (Some lent) = Some (record { levers = lent.levers.now; reference = lent.reference })
 
--- Levers that a triangle can be worked from: none is so large that a product with a force could not be held, and the reference row's isn't 0.
-pub record Hangs (n : ℕ) (levers : List ℕ) (reference : ℕ) : Type 0 where
-  pub rows : length levers ≡ n
-  pub positive : reference < n → 1 ≤ get_or levers reference 0
-  pub high : (row : ℕ) → row < n → get_or levers row 0 ≤ most_lever
+-- Levers that a triangle of n rows can be worked from: none is so large that its product with a force could not be held, and the reference
+-- row's isn't 0.
+pub record LeversFit (triangle : Triangle) (n : ℕ) : Type 0 where
+  pub rows : length triangle.levers ≡ n
+  pub positive : triangle.reference < n → 1 ≤ get_or triangle.levers triangle.reference 0
+  pub high : (row : ℕ) → row < n → get_or triangle.levers row 0 ≤ most_lever
 
-abbrev pub TriangleFits : (n : ℕ) → Option Triangle → Type 0
-TriangleFits n triangle = IfSome triangle (λ t. Hangs n t.levers.now t.reference)
+-- where there is a triangle
+abbrev pub TriangleFits : Option Triangle → (n : ℕ) → Type 0
+TriangleFits triangle n = IfSome triangle (λ t. LeversFit t n)
 
--- What the most of a row is worked from: a triangle of at most eight rows with this one among them, and forces of which none is too large.
+-- What the most of a row is worked from: a triangle of at most eight rows, this one among them, and forces of which none is too large.
 pub record MostAsked (triangle : Option Triangle) (forces : List ℕ) (row : ℕ) : Type 0 where
   pub n : ℕ
-  pub fits : TriangleFits n triangle
+  pub fits : TriangleFits triangle n
   pub few : n ≤ row_counts.high
   pub inside : row < n
   pub bounded : (k : ℕ) → get_or forces k 0 ≤ most_limit
 
--- the most that a row gets by itself, whatever its groups leave it: more than any row gets where the triangle adds no limit
+-- the most that a row gets by itself, whatever its groups leave it; where the triangle adds no limit, more than any row gets
 abbrev pub most_by : Option Triangle → (forces : List ℕ) (row : ℕ) → ℕ
 most_by None forces row = most_limit
-most_by (Some triangle) forces row =
-    let reference = triangle.reference in
-    cond (ltb reference row) (added_limit triangle.levers.now reference (get_or forces reference 0) row) most_limit
+most_by (Some t) forces row = cond (ltb t.reference row) (added_limit t (get_or forces t.reference 0) row) most_limit
 
 -- The limits of the groups that begin at `row`, the shortest first, as a table; it is asked for no other row.
 abbrev pub own_table : (limits : List ℕ) (row : ℕ) → Table

@@ -5,10 +5,12 @@
 ghost use Rattle.std.specs.Prelude.{◌≡◌, take, IfOk};
 ghost use Rattle.joint.specs.Places.{eight_places};
 ghost use Rattle.sharing.specs.Groups.{listed, most_limit};
+ghost use Rattle.sharing.specs.Sharing.{shared};
+ghost use Rattle.sharing.specs.Triangle.{limits_in};
 ghost use Rattle.sharing.specs.Best.{Best};
 ghost use Rattle.allocation.specs.Allocation.{none_above, allocated};
 ghost use Rattle.allocation.specs.Answers.{number_of, allocation_meaning};
-ghost use Rattle.allocation.specs.Steps.{Shareable, TriangleFits, shared_by, MostAsked, most_by, own_table, Countable, Counted};
+ghost use Rattle.allocation.specs.Steps.{Shareable, triangle_of, TriangleFits, MostAsked, most_by, own_table, Countable, Counted};
 
 // No limit above this is taken: refusal 8.
 const MOST: u64 = 4_000_000_000;
@@ -60,16 +62,16 @@ fn none_above_most(limits: &[u64]) -> bool
 
 // P207's triangle: each row below the reference row gets no more than that row's force, by the ratio of their levers.
 #[derive(Clone, Copy)]
-pub struct Triangle<'a> {
+pub struct LentTriangle<'a> {
     // one for each row
     pub levers: &'a [u32],
     pub reference: usize,
 }
 
 // The sharing itself, in a triangle or without. Open for Work, which has shown that there is a limit for each group and none too large.
-pub fn share(count: usize, limits: &[u64], triangle: Option<Triangle>) -> [u64; 8]
-    requires { Shareable count limits.now × TriangleFits count triangle }
-    ensures { result ≡ eight_places (shared_by triangle.entry (listed count limits.now) count) }
+pub fn share(count: usize, limits: &[u64], triangle: Option<LentTriangle>) -> [u64; 8]
+    requires { Shareable count limits.now × TriangleFits (triangle_of triangle) count }
+    ensures { result ≡ eight_places (shared (limits_in (triangle_of triangle.entry) (listed count limits.now) count) count) }
 {
     let mut forces = [0u64; 8];
     let mut sums = [MOST; 8];
@@ -87,9 +89,9 @@ pub fn share(count: usize, limits: &[u64], triangle: Option<Triangle>) -> [u64; 
 }
 
 // The most that the triangle leaves a row, by the forces of those above it.
-fn most_in(triangle: Option<Triangle>, forces: &[u64; 8], row: usize) -> u64
-    requires { MostAsked triangle forces.now row }
-    ensures { result ≡ most_by triangle.entry forces.now row }
+fn most_in(triangle: Option<LentTriangle>, forces: &[u64; 8], row: usize) -> u64
+    requires { MostAsked (triangle_of triangle) forces.now row }
+    ensures { result ≡ most_by (triangle_of triangle.entry) forces.now row }
 {
     let Some(triangle) = triangle else {
         return MOST;

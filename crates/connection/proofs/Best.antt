@@ -2,13 +2,11 @@
 -- are the best of the lists that keep both (the theorems of `sharing`), and a larger moment carries what a smaller one does.
 -- Assumes nothing.
 use Rattle.std.specs.Prelude.{Option, Result, Ok, Err, IfOk}
-use mathlib.Core.Path.{◌≡◌, refl, sym, ap, ◌∙◌}
+use mathlib.Core.Path.{◌≡◌, refl, sym, ap, subst, ◌∙◌}
 use mathlib.Core.Bool.{Bool}
-use Prim.Native.Nat.{ℕ, suc, ◌≤◌}
-use native.Mathlib.Omega.{arith}
-use mathlib.Core.List.{List}
+use Prim.Native.Nat.{ℕ}
+use mathlib.Core.List.{List, []}
 use lib.ListN.{length}
-use lib.Seq.{length-take-le, get_or-take}
 use lib.Dec.{leb→le, le→leb}
 use lib.IntN.{pos}
 use borrow.Author.Tests.{not-true}
@@ -19,12 +17,13 @@ use Rattle.joint.specs.declared.Column.{Column}
 use Rattle.joint.specs.declared.Face.{Face}
 use Rattle.joint.specs.InRange.{ColumnInRange, FaceInRange}
 use Rattle.strength.specs.declared.BoltStrengths.{BoltStrengths}
-use Rattle.joint.proofs.InRange.{row_lever}
 use Rattle.sharing.specs.Groups.{Table, with_cap}
-use Rattle.sharing.specs.Sharing.{Competes, Falling}
+use Rattle.sharing.specs.Sharing.{Competes}
 use Rattle.sharing.specs.Best.{Best}
 use Rattle.sharing.proofs.Theorems.{best}
+use Rattle.sharing.specs.Triangle.{limits_in, KeepsTriangle}
 use Rattle.sharing.proofs.Cap.{cap_is_a_limit}
+use Rattle.sharing.proofs.Triangle.{triangle_is_limits}
 use Rattle.tension.specs.Admissible.{Admissible}
 use Rattle.governing.specs.Cap.{newtons_of}
 use Rattle.governing.proofs.Cases.{cap_newtons}
@@ -33,10 +32,11 @@ use Rattle.verdicts.proofs.Bending.{carries_monotone}
 use Rattle.outcome.specs.Outcome.{FaceOutcome, face_meaning}
 use Rattle.outcome.specs.declared.FaceRefusal.{FaceRefusal}
 use Rattle.outcome.specs.declared.FaceResult.{FaceResult}
-use Rattle.connection.specs.OneFace.{bolt_of, rows_of, levers_of, limit_of, cap_of, forces_of, carries_of}
+use Rattle.connection.specs.OneFace.{bolt_of, rows_of, levers_of, limit_of, cap_of, triangle_on, forces_of, carries_of}
 use Rattle.connection.specs.Connection.{refusals_after_10, result_of, worked_face, worked_connection}
 use Rattle.connection.specs.Demand.{CompetesFor, Demand3, Demand3For, programs_list}
 use Rattle.allocation.proofs.Answers.{rows_kept}
+use Rattle.connection.proofs.Levers.{falling}
 use Rattle.connection.proofs.Answers.{admissible, not_refused, in_range_of}
 
 module _ (panel_counts : Bool) (column : Column) (bolt : BoltStrengths) (face : Face) (a : Admissible column face)
@@ -45,64 +45,57 @@ module _ (panel_counts : Bool) (column : Column) (bolt : BoltStrengths) (face : 
   n : ℕ
   n = rows_of face
 
-  -- the limits, and the same with the cap among them
-  limit : Table
-  limit = limit_of column bolt face
+  -- the limits with the cap among them
+  capped : Table
+  capped = with_cap (limit_of column bolt face) (rows_of face) (newtons_of (cap_of panel_counts column face))
 
-  limit_and_cap : Table
-  limit_and_cap = with_cap (limit_of column bolt face) (rows_of face) (newtons_of (cap_of panel_counts column face))
-
-  enough : rows_of face ≤ length face.levers
-  enough = omega (arith, eight, a.face.rows.high)
-
-  falling : Falling (levers_of face) (rows_of face)
-  falling =
-      let levers = face.levers in
-      let inside = get_or-take (rows_of face) levers in
-      record {
-        rows = length-take-le (rows_of face) levers enough;
-        falls = λ k h. rw (inside (suc k) 0 h, inside k 0 (omega arith)) (a.falls k h);
-        positive = λ k h. rw (inside k 0 h) (row_lever face a.face k h (omega (arith, enough))).low;
-      }
-
-  -- a list competes under the limits with the cap exactly when it keeps the limits and the cap
-  under : (other : List ℕ) → CompetesFor panel_counts column bolt face other → Competes limit_and_cap (rows_of face) other
-  unfolding limit_and_cap
-  under other c =
-      let kept = rw cap at c.capped in
-      (cap_is_a_limit (limit_of column bolt face) (rows_of face) (newtons_of (cap_of panel_counts column face)) other).1
-      (c.limits, leb→le _ _ kept.le)
-
-  over : (other : List ℕ) → Competes limit_and_cap (rows_of face) other → CompetesFor panel_counts column bolt face other
-  unfolding limit_and_cap
-  over other c =
-      let both = (cap_is_a_limit (limit_of column bolt face) (rows_of face) (newtons_of (cap_of panel_counts column face)) other).0 c in
-      record { limits = both.0; capped = rw cap (record { le = le→leb _ _ both.1 }) }
+  -- and with the triangle's, where there is one
+  limits : Table
+  limits = limits_in (triangle_on column bolt face) capped (rows_of face)
 
   -- the program's list is the forces
   own : programs_list face (result_of panel_counts column bolt face).forces ≡ forces_of panel_counts column bolt face
   unfolding result_of forces_of
-  own = rows_kept (rows_of face) (with_cap (limit_of column bolt face) (rows_of face) (newtons_of (cap_of panel_counts column face)))
+  own = rows_kept (rows_of face) _
 
-  of_forces : (forces : List ℕ) → forces_of panel_counts column bolt face ≡ forces → Best limit_and_cap (rows_of face) forces
-  unfolding forces_of limit_and_cap
-  of_forces forces e = rw e at (best limit_and_cap (rows_of face))
+  -- a list competes with it exactly when it competes under these limits
+  module _ (program : List ℕ) (e : forces_of panel_counts column bolt face ≡ program) (other : List ℕ) where
+    under : CompetesFor panel_counts column bolt face program other → Competes limits (rows_of face) other
+    unfolding limits capped forces_of
+    under c =
+        let kept = rw cap at c.capped in
+        let within = (cap_is_a_limit (limit_of column bolt face) (rows_of face) (newtons_of (cap_of panel_counts column face)) other).1
+        (c.limits, leb→le _ _ kept.le) in
+        (triangle_is_limits (triangle_on column bolt face) capped (rows_of face) other).1 (within, subst (λ p. KeepsTriangle (triangle_on column bolt face) (rows_of face) p other) (sym e) c.triangle)
+
+    over : Competes limits (rows_of face) other → CompetesFor panel_counts column bolt face program other
+    unfolding limits capped forces_of
+    over c =
+        let both = (triangle_is_limits (triangle_on column bolt face) capped (rows_of face) other).0 c in
+        let within = (cap_is_a_limit (limit_of column bolt face) (rows_of face) (newtons_of (cap_of panel_counts column face)) other).0 both.0 in
+        record { limits = within.0; capped = rw cap (record { le = le→leb _ _ within.1 }); triangle = subst (λ p. KeepsTriangle (triangle_on column bolt face) (rows_of face) p other) e both.1 }
+
+    of_forces : Best limits (rows_of face) program
+    unfolding forces_of limits capped
+    of_forces = rw e at (best limits (rows_of face))
 
   demand : let result = result_of panel_counts column bolt face in
       Demand3 panel_counts column bolt face result.forces result.verdicts.bending
   unfolding result_of
   demand =
       let list = programs_list face (result_of panel_counts column bolt face).forces in
-      let b = of_forces list (sym own) in
-      let fails = b.fails (levers_of face) falling (carries face.loads face.beam) (carries_monotone _ _) in
+      let e : forces_of panel_counts column bolt face ≡ list = sym own in
+      let b = of_forces list e [] in
+      let falls = falling column face a eight in
+      let fails = b.fails (levers_of face) falls (carries face.loads face.beam) (carries_monotone _ _) in
       let same : carries_of face list ≡ carries_of face (forces_of panel_counts column bolt face) = ap (carries_of face) own in
       record {
-        competes = over _ b.competes;
-        sums = λ other c. b.sums other (under other c);
-        same = λ other c. b.same (levers_of face) falling other (under other c);
+        competes = over list e _ b.competes;
+        sums = λ other c. b.sums other (under list e other c);
+        same = λ other c. b.same (levers_of face) falls other (under list e other c);
         fails_in_bending = (
-          (λ fail other c. fails.0 (same ∙ fail) other (under other c)),
-          (λ all. sym same ∙ fails.1 (λ other c. all other (over other c))),
+          (λ fail other c. fails.0 (same ∙ fail) other (under list e other c)),
+          (λ all. sym same ∙ fails.1 (λ other c. all other (over list e other c))),
         );
       }
 

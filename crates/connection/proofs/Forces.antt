@@ -1,5 +1,6 @@
 -- The limits of a joint's groups with the cap stored on group 1 to n: they agree with the limits that the cap has joined, so they
 -- share alike. Group 1 to n has the n-th place, and no other group has it. Assumes nothing.
+use Rattle.std.specs.Prelude.{Option}
 use mathlib.Core.Path.{◌≡◌, refl, sym, ap, ap₂, ◌∙◌}
 use mathlib.Core.Bool.{Bool, true, false, cond, ◌&&◌}
 use Prim.Native.Nat.{ℕ, zero, suc, ◌-◌, ◌≤◌, ◌<◌, zero-le, min}
@@ -12,7 +13,8 @@ use Rattle.arithmetic.proofs.Store.{store_keeps}
 use Rattle.sharing.specs.Groups.{Table, groups_above, group_count, place_of, listed, with_cap, most_limit}
 use Rattle.sharing.specs.Sharing.{shared}
 use Rattle.sharing.proofs.Places.{group_count_le, stored_same, stored_other}
-use Rattle.sharing.proofs.Agreement.{shared_agrees}
+use Rattle.sharing.specs.Triangle.{Triangle, limits_in}
+use Rattle.sharing.proofs.Triangle.{shared_in_agrees}
 use Rattle.joint.specs.Ranges.{row_counts}
 use Rattle.allocation.specs.Steps.{Shareable}
 use Rattle.tension.specs.Admissible.{table_places, TableFilled}
@@ -47,8 +49,9 @@ module _ (n cap : ℕ) (limit : Table) (entry table : List ℕ) (filled : TableF
       go true false et el = other (λ w. eqb-false (suc j) n el (omega (arith, w.1)))
       go false last et el = other (λ w. eqb-false i 0 et w.0)
 
-  pub forces_agree : shared (listed n (set table (n - 1) stored)) n ≡ shared (with_cap limit n cap) n
-  forces_agree = shared_agrees _ _ n agrees
+  pub forces_agree : (triangle : Option Triangle)
+      → shared (limits_in triangle (listed n (set table (n - 1) stored)) n) n ≡ shared (limits_in triangle (with_cap limit n cap) n) n
+  forces_agree triangle = shared_in_agrees triangle _ _ n agrees
 
 zeros_small : (m i : ℕ) → get_or (replicate m 0) i 0 ≤ most_limit
 zeros_small zero i = zero-le

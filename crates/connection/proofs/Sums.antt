@@ -12,7 +12,9 @@ use Rattle.joint.specs.declared.Face.{Face}
 use Rattle.strength.specs.declared.BoltStrengths.{BoltStrengths}
 use Rattle.sharing.specs.Groups.{total, with_cap}
 use Rattle.sharing.proofs.Theorems.{best}
+use Rattle.sharing.specs.Triangle.{limits_in}
 use Rattle.sharing.proofs.Cap.{cap_is_a_limit}
+use Rattle.sharing.proofs.Triangle.{triangle_is_limits}
 use Rattle.compression.specs.Compression.{resistances_of}
 use Rattle.compression.specs.InRange.{most_bearing}
 use Rattle.compression.proofs.Ranges.{bearing_le, parts_in_range}
@@ -21,7 +23,7 @@ use Rattle.governing.specs.Governing.{force_of}
 use Rattle.governing.proofs.Cases.{cap_le}
 use Rattle.governing.proofs.Least.{governing_le_bearing}
 use Rattle.outcome.specs.Outcome.{FaceOutcome}
-use Rattle.connection.specs.OneFace.{bolt_of, rows_of, limit_of, steel_of, governing_of, cap_of, forces_of}
+use Rattle.connection.specs.OneFace.{bolt_of, rows_of, limit_of, steel_of, governing_of, cap_of, triangle_on, forces_of}
 use Rattle.connection.specs.Connection.{result_of, worked_connection}
 use Rattle.connection.proofs.Answers.{not_refused, in_range_of}
 
@@ -31,8 +33,11 @@ module _ (panel_counts : Bool) (column : Column) (face : Face) where
   sum_le_cap bolt =
       let limit = limit_of column bolt face in
       let cap = newtons_of (cap_of panel_counts column face) in
-      ((cap_is_a_limit limit (rows_of face) cap (forces_of panel_counts column bolt face)).0
-      (best (with_cap limit (rows_of face) cap) (rows_of face)).competes).1
+      let triangle = triangle_on column bolt face in
+      let capped = with_cap limit (rows_of face) cap in
+      let kept = (triangle_is_limits triangle capped (rows_of face) (forces_of panel_counts column bolt face)).0
+      (best (limits_in triangle capped (rows_of face)) (rows_of face)).competes in
+      ((cap_is_a_limit limit (rows_of face) cap (forces_of panel_counts column bolt face)).0 kept.0).1
 
   force_le : ColumnInRange column → FaceInRange face → force_of (governing_of panel_counts column face) ≤ most_bearing
   unfolding governing_of

@@ -8,13 +8,12 @@ use Rattle.joint.specs.declared.Face.{Face}
 use Rattle.sharing.specs.Groups.{total}
 use Rattle.sharing.specs.Sharing.{newton_metres}
 use Rattle.joint.specs.Places.{eight_places}
-use Rattle.strength.specs.Thickness.{both_too_thick}
 use Rattle.strength.specs.declared.BoltStrengths.{BoltStrengths}
 use Rattle.spacing.specs.Spacing.{spacing_of}
 use Rattle.governing.specs.Governing.{force_of}
 use Rattle.governing.specs.Cap.{over_compressed, newtons_of}
 use Rattle.refusals.specs.Refusals.{levers_fall, rows_apart, rows_in_place, too_tight}
-use Rattle.connection.specs.OneFace.{bolt_of, steel_of, governing_of, cap_of, forces_of, moment_of, verdicts_of}
+use Rattle.connection.specs.OneFace.{bolt_of, governing_of, cap_of, forces_of, moment_of, verdicts_of}
 use Rattle.outcome.specs.Outcome.{FaceOutcome, no_result}
 use Rattle.outcome.specs.declared.FaceResult.{FaceResult}
 
@@ -26,14 +25,13 @@ refused_face number field = record { number = number; field = field; result = no
 abbrev pub refused_after_10 : (number : ℕ) → FaceOutcome
 refused_after_10 number = refused_face number 0
 
--- rules 11.3 to 11.7 and 11.10: the refusals after 10 in their order, each number with the test that lets a face pass
+-- rules 11.3 to 11.5, 11.7 and 11.10: the refusals after 10 in their order, each number with the test that lets a face pass
 unfoldable pub refusals_after_10 : (panel_counts : Bool) → Column → BoltStrengths → Face → List Check
 refusals_after_10 panel_counts column bolt face =
     (11, levers_fall face)
     ∷ (19, rows_apart bolt.diameter face)
     ∷ (12, rows_in_place face)
     ∷ (13, not (too_tight face.extended (spacing_of column face)))
-    ∷ (14, not (both_too_thick column face.plate (steel_of column face) bolt))
     ∷ (15, not (over_compressed face.loads (force_of (governing_of panel_counts column face))))
     ∷ []
 

@@ -1,17 +1,19 @@
 -- What one face of the column comes to, from the crates below: limits, governing check, cap, row forces, moment and verdicts. A face is
 -- worked with the column that it stands on and the figures of its bolts; and panel shear counts in its cap, or not (rule 5.10). Assumes
 -- nothing.
-use Rattle.std.specs.Prelude.{ℕ, Bool, List, take, ℤ, Option}
+use Rattle.std.specs.Prelude.{ℕ, Bool, cond, List, take, ℤ, Option, None, Some}
 use Rattle.bolttable.specs.Area.{area_number}
 use Rattle.joint.specs.declared.Bolts.{Bolts}
 use Rattle.joint.specs.declared.Column.{Column}
 use Rattle.joint.specs.declared.Face.{Face}
 use Rattle.strength.specs.Bolt.{bolt_strengths}
 use Rattle.strength.specs.Steel.{steel_strengths}
+use Rattle.strength.specs.Thickness.{both_too_thick}
 use Rattle.strength.specs.declared.SteelStrengths.{SteelStrengths}
 use Rattle.strength.specs.declared.BoltStrengths.{BoltStrengths}
 use Rattle.sharing.specs.Groups.{Table, with_cap}
 use Rattle.sharing.specs.Sharing.{shared, moment}
+use Rattle.sharing.specs.Triangle.{Triangle, limits_in}
 use Rattle.tension.specs.Limits.{group_limit}
 use Rattle.compression.specs.Compression.{resistances_of}
 use Rattle.governing.specs.Governing.{force_of, governing_check}
@@ -50,11 +52,20 @@ unfoldable pub cap_of : (panel_counts : Bool) → Column → Face → ℤ
 unfolding governing_of
 cap_of panel_counts column face = tension_cap face.loads (force_of (governing_of panel_counts column face))
 
--- rule 6.3: the forces under the limits and the cap
+-- rule 6.5: the triangle that the rows go by, where flange and plate are both too thick for the bolts; it hangs from the first row under the
+-- beam flange
+unfoldable pub triangle_on : Column → BoltStrengths → Face → Option Triangle
+triangle_on column bolt face =
+    cond (both_too_thick column face.plate (steel_of column face) bolt)
+    (Some (record { levers = levers_of face; reference = face.extended }))
+    None
+
+-- rules 6.3 and 6.5: the forces under the limits of the groups, the cap and the triangle's limits
 unfoldable pub forces_of : (panel_counts : Bool) → Column → BoltStrengths → Face → List ℕ
 unfolding cap_of
 forces_of panel_counts column bolt face =
-    shared (with_cap (limit_of column bolt face) (rows_of face) (newtons_of (cap_of panel_counts column face))) (rows_of face)
+    let limit = with_cap (limit_of column bolt face) (rows_of face) (newtons_of (cap_of panel_counts column face)) in
+    shared (limits_in (triangle_on column bolt face) limit (rows_of face)) (rows_of face)
 
 -- Z of a list of forces
 abbrev pub moment_of : Face → List ℕ → ℕ

@@ -12,13 +12,16 @@ ghost use Rattle.governing.specs.Governing.{force_of};
 ghost use Rattle.outcome.specs.Outcome.{FaceOutcome, face_meaning};
 ghost use Rattle.sharing.specs.Groups.{with_cap, most_limit};
 ghost use Rattle.sharing.specs.Sharing.{shared};
+ghost use Rattle.sharing.specs.Triangle.{limits_in};
+ghost use Rattle.allocation.specs.Steps.{triangle_of};
 ghost use Rattle.strength.specs.InRange.{BoltInRange};
 ghost use Rattle.tension.specs.Admissible.{Admissible};
-ghost use Rattle.connection.specs.OneFace.{rows_of, limit_of, governing_of, verdicts_of};
+ghost use Rattle.connection.specs.OneFace.{rows_of, limit_of, triangle_on, governing_of, verdicts_of};
 ghost use Rattle.connection.specs.Connection.{refused_after_10, refusals_after_10, result_of, worked_face, worked_connection};
 ghost use Rattle.connection.specs.Demand.{Demand3For};
 ghost use Rattle.connection.specs.Steps.{AtWork, FaceCap, Tallied, admitted_to};
 
+use allocation::LentTriangle;
 use governing::CompressionCheck;
 use joint::{Bolts, Column, Face};
 use outcome::{FaceRefusal, FaceResult, Verdicts};
@@ -110,9 +113,6 @@ impl<'a> FaceAtWork<'a> {
         if refusals::too_tight(face.extended, self.spacing) {
             return Err(FaceRefusal::TooTight);
         }
-        if strength::both_too_thick(*self.column, face.plate, self.steel, self.bolt) {
-            return Err(FaceRefusal::TooThick);
-        }
         Ok(())
     }
 
@@ -149,12 +149,13 @@ impl<'a> FaceAtWork<'a> {
         }
     }
 
-    // The forces of the rows, under the limits of all groups and the cap on them together.
+    // The forces of the rows, under the limits of all groups and the cap on them together, in the triangle or without.
     fn row_forces(&self, cap: u64) -> [u64; 8]
         requires { Admissible self.now.column.now self.now.face.now }
         ensures value { result
-            ≡ eight_places (shared (with_cap (limit_of self.now.column.now self.now.bolt self.now.face.now) (rows_of self.now.face.now) cap)
-            (rows_of self.now.face.now)) }
+            ≡ eight_places (shared (limits_in (triangle_on self.now.column.now self.now.bolt self.now.face.now)
+            (with_cap (limit_of self.now.column.now self.now.bolt self.now.face.now) (rows_of self.now.face.now) cap)
+            (rows_of self.now.face.now)) (rows_of self.now.face.now)) }
         ensures by_index { (k : ℕ) → get_or result k 0 ≤ most_limit }
     {
         let rows = self.face.rows as usize;
@@ -169,7 +170,21 @@ impl<'a> FaceAtWork<'a> {
             &mut limits,
         );
         limits[whole] = limits[whole].min(cap);
-        allocation::share(rows, &limits)
+        allocation::share(rows, &limits, self.triangle())
+    }
+
+    // The triangle that the rows go by, where flange and plate are both too thick for the bolts.
+    fn triangle(&self) -> Option<LentTriangle<'a>>
+        ensures { triangle_of result ≡ triangle_on self.now.column.now self.now.bolt self.now.face.now }
+    {
+        let face = self.face;
+        if !strength::both_too_thick(*self.column, face.plate, self.steel, self.bolt) {
+            return None;
+        }
+        Some(LentTriangle {
+            levers: &face.levers[..face.rows as usize],
+            reference: face.extended as usize,
+        })
     }
 
     // The four verdicts on the forces.

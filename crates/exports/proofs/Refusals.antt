@@ -13,7 +13,7 @@ use Rattle.jointfile.specs.declared.WriteRefusal.{WriteRefusal}
 use Rattle.jointfile.specs.declared.WriteRefusal.TheVariants.{RowCount as UnwrittenRowCount, NoRoom, SpareLever}
 use Rattle.outcome.specs.Outcome.{number_of as face_number_of}
 use Rattle.outcome.specs.declared.FaceRefusal.{FaceRefusal}
-use Rattle.outcome.specs.declared.FaceRefusal.TheVariants.{OutOfRange as FieldOutOfRange, LeversDontFall, RowsTooClose, RowOutOfPlace, TooTight, TooThick, NoCap}
+use Rattle.outcome.specs.declared.FaceRefusal.TheVariants.{OutOfRange as FieldOutOfRange, LeversDontFall, RowsTooClose, RowOutOfPlace, TooTight, NoCap}
 
 pub limits_some : (refusal : LimitsRefusal) → limits_number refusal ≡ 0 → ⊥
 limits_some NoRowCount none = omega (arith, none)
@@ -26,7 +26,6 @@ face_some LeversDontFall none = omega (arith, none)
 face_some RowsTooClose none = omega (arith, none)
 face_some RowOutOfPlace none = omega (arith, none)
 face_some TooTight none = omega (arith, none)
-face_some TooThick none = omega (arith, none)
 face_some NoCap none = omega (arith, none)
 
 pub table_some : (refusal : TableRefusal) → table_number refusal ≡ 0 → ⊥

@@ -10,7 +10,7 @@ use lib.Dec.{eqb}
 use lib.ListN.{length, take, length-append, length-take}
 use Rattle.outcome.specs.declared.FaceResult.{FaceResult}
 use Rattle.outcome.specs.declared.FaceRefusal.{FaceRefusal}
-use Rattle.outcome.specs.declared.FaceRefusal.TheVariants.{OutOfRange, LeversDontFall, RowsTooClose, RowOutOfPlace, TooTight, TooThick, NoCap}
+use Rattle.outcome.specs.declared.FaceRefusal.TheVariants.{OutOfRange, LeversDontFall, RowsTooClose, RowOutOfPlace, TooTight, NoCap}
 use Rattle.outcome.specs.declared.JointRefusal.{JointRefusal}
 use Rattle.outcome.specs.declared.SecondFace.{SecondFace}
 use Rattle.outcome.specs.declared.Worked.{Worked}
@@ -50,7 +50,6 @@ field_none LeversDontFall not = refl
 field_none RowsTooClose not = refl
 field_none RowOutOfPlace not = refl
 field_none TooTight not = refl
-field_none TooThick not = refl
 field_none NoCap not = refl
 
 module _ (number : ℕ) (shown : List ℕ) where
@@ -227,7 +226,6 @@ number_some LeversDontFall none = absurd (omega arith)
 number_some RowsTooClose none = absurd (omega arith)
 number_some RowOutOfPlace none = absurd (omega arith)
 number_some TooTight none = absurd (omega arith)
-number_some TooThick none = absurd (omega arith)
 number_some NoCap none = absurd (omega arith)
 
 module _ (number rows other_rows : ℕ) where

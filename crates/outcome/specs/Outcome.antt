@@ -3,7 +3,7 @@ use Rattle.std.specs.Prelude.{ℕ, false, cond, replicate, Option, Some, None, R
 use Rattle.joint.specs.Ranges.{row_counts}
 use Rattle.governing.specs.declared.CompressionCheck.TheVariants.{Flange}
 use Rattle.outcome.specs.declared.FaceRefusal.{FaceRefusal}
-use Rattle.outcome.specs.declared.FaceRefusal.TheVariants.{OutOfRange, LeversDontFall, RowsTooClose, RowOutOfPlace, TooTight, TooThick, NoCap}
+use Rattle.outcome.specs.declared.FaceRefusal.TheVariants.{OutOfRange, LeversDontFall, RowsTooClose, RowOutOfPlace, TooTight, NoCap}
 use Rattle.outcome.specs.declared.FaceResult.{FaceResult}
 use Rattle.outcome.specs.declared.JointRefusal.{JointRefusal}
 use Rattle.outcome.specs.declared.RefusedFace.{RefusedFace}
@@ -60,7 +60,6 @@ number_of LeversDontFall = 11
 number_of RowsTooClose = 19
 number_of RowOutOfPlace = 12
 number_of TooTight = 13
-number_of TooThick = 14
 number_of NoCap = 15
 
 abbrev pub field_of_refusal : FaceRefusal → ℕ
@@ -69,7 +68,6 @@ field_of_refusal LeversDontFall = 0
 field_of_refusal RowsTooClose = 0
 field_of_refusal RowOutOfPlace = 0
 field_of_refusal TooTight = 0
-field_of_refusal TooThick = 0
 field_of_refusal NoCap = 0
 
 -- of a joint with one face no face is told

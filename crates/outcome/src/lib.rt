@@ -40,7 +40,6 @@ pub enum FaceRefusal {
     RowsTooClose,
     RowOutOfPlace,
     TooTight,
-    TooThick,
     // N is above the governing force
     NoCap,
 }
@@ -56,7 +55,6 @@ impl FaceRefusal {
             FaceRefusal::RowsTooClose => 19,
             FaceRefusal::RowOutOfPlace => 12,
             FaceRefusal::TooTight => 13,
-            FaceRefusal::TooThick => 14,
             FaceRefusal::NoCap => 15,
         }
     }

@@ -50,7 +50,7 @@ pub record BoltInRange (bolt : BoltStrengths) : Type 0 where
   pub bearing : Within bolt_bearings bolt.bearing
   pub ultimate : Within ultimate_strengths bolt.ultimate
 
--- what refusal 14 looks at
+-- what says whether flange and plate are too thick for the bolts
 pub record ThicknessInRange (c : Column) (p : Plate) (y : SteelStrengths) (b : BoltStrengths) : Type 0 where
   pub column : ColumnInRange c
   pub plate : PlateInRange p

@@ -1,4 +1,4 @@
--- Rule 11.6, Work's refusal 14: column flange and plate are both too thick for the bolts.
+-- Rule 6.5: whether column flange and plate are both too thick for the bolts to share the force plastically.
 -- Assumes nothing.
 use Rattle.std.specs.Prelude.{ℕ, ◌*◌, Bool, ◌&&◌, ltb}
 use Rattle.joint.specs.declared.Column.{Column}

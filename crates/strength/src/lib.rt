@@ -150,7 +150,8 @@ fn class_strengths(class: u32) -> ClassStrengths
     }
 }
 
-// Refusal 14: flange and plate both too thick for the bolts. Work calls it for a joint whose fields are in range.
+// Whether flange and plate are both too thick for the bolts: the rows then go by the triangle. Work calls it for a joint whose fields are
+// in range.
 #[tactic(auto, unfolding(crate::specs::Thickness::both_too_thick))]
 pub fn both_too_thick(
     column: Column,

@@ -14,7 +14,7 @@ use Rattle.connection.specs.Connection.{worked_connection}
 use Rattle.connection.specs.Demand.{Demand3For}
 use Rattle.outcome.specs.Outcome.{FaceOutcome, Outcome, NotAsked, face_number, face_meaning, outcome_meaning}
 use Rattle.outcome.specs.declared.FaceRefusal.{FaceRefusal}
-use Rattle.outcome.specs.declared.FaceRefusal.TheVariants.{OutOfRange, LeversDontFall, RowsTooClose, RowOutOfPlace, TooTight, TooThick, NoCap}
+use Rattle.outcome.specs.declared.FaceRefusal.TheVariants.{OutOfRange, LeversDontFall, RowsTooClose, RowOutOfPlace, TooTight, NoCap}
 use Rattle.outcome.specs.declared.FaceResult.{FaceResult}
 use Rattle.outcome.specs.declared.RefusedFace.{RefusedFace}
 use Rattle.outcome.specs.declared.RefusedFace.TheVariants.{First, Second}
@@ -35,7 +35,6 @@ module _ (face : RefusedFace) (next : FaceResult → Outcome) {outcome : FaceOut
       by_refusal RowsTooClose = refl
       by_refusal RowOutOfPlace = refl
       by_refusal TooTight = refl
-      by_refusal TooThick = refl
       by_refusal NoCap = refl
 
   if_worked : (result : FaceResult) → face_meaning (Ok result) ≡ outcome → next result ≡ if_taken (face_number face) outcome next

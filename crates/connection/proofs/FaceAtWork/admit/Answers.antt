@@ -1,19 +1,11 @@
 -- `admit` meets its contract: what its tests leave of a face is what the limits rely on. Assumes nothing.
 use Rattle.std.proofs.Common.{sym, ap, ◌∙◌, arith, ◌≡◌, true, false}
 use borrow.Author.Tests.{le-leb}
-use Rattle.strength.proofs.Ranges.{steel_in_range}
 use Rattle.refusals.specs.Refusals.{too_tight, levers_fall}
 use Rattle.refusals.proofs.Rows.{front_falls}
 use Rattle.spacing.specs.Spacing.{spacing_of}
 use Rattle.connection.proofs.Answers.{admissible}
 use Rattle.connection.proofs.FaceAtWork.admit.Goals as goal
-
-pub both_too_thick-requires : goal.both_too_thick-requires
-both_too_thick-requires c =
-    let s = c.args.self.now in
-    let known = s.at_work in
-    let steel = steel_in_range s.column.now s.face.now.beam s.face.now.plate known.column known.face.beam known.face.plate in
-    record { column = known.column; plate = known.face.plate; steel = rw known.strengths steel; bolt = known.bolt }
 
 pub returns-clause-admissible : goal.returns-clause-admissible
 returns-clause-admissible c =

@@ -5,16 +5,20 @@ use lib.ListN.{length, take}
 use Rattle.joint.specs.Places.{eight_places}
 use Rattle.sharing.specs.Groups.{Table, with_cap}
 use Rattle.sharing.specs.Sharing.{shared, newton_metres}
+use Rattle.sharing.specs.Triangle.{limits_in}
 use Rattle.sharing.proofs.Theorems.{best}
 use Rattle.verdicts.specs.Tally.{tally_of}
-use Rattle.connection.specs.OneFace.{levers_of, limit_of, forces_of, verdicts_of}
+use Rattle.connection.specs.OneFace.{levers_of, limit_of, triangle_on, forces_of, verdicts_of}
 use Rattle.connection.specs.Connection.{result_of}
 use Rattle.allocation.proofs.Answers.{rows_kept}
 use Rattle.connection.proofs.FaceAtWork.result.Goals as goal
 use Rattle.connection.proofs.FaceAtWork.result.Goals.{After-row_forces-forces}
 
 limits : After-row_forces-forces → Table
-limits c = let s = c.args.self.now in with_cap (limit_of s.column.now s.bolt s.face.now) s.face.now.rows c.args.cap
+limits c =
+    let s = c.args.self.now in
+    let rows = s.face.now.rows in
+    limits_in (triangle_on s.column.now s.bolt s.face.now) (with_cap (limit_of s.column.now s.bolt s.face.now) rows c.args.cap) rows
 
 -- the rows' places have the list that was shared
 kept : (c : After-row_forces-forces)
@@ -47,7 +51,7 @@ returns c =
     let s = c.args.self.now in
     let rows = s.face.now.rows in
     λ panel_counts face-cap.
-    let forces = kept here ∙ ap (λ cap. shared (with_cap (limit_of s.column.now s.bolt s.face.now) rows cap) rows) face-cap.newtons in
+    let forces = kept here ∙ ap (λ cap. shared (limits_in (triangle_on s.column.now s.bolt s.face.now) (with_cap (limit_of s.column.now s.bolt s.face.now) rows cap) rows) rows) face-cap.newtons in
     let tally = c.tally_forces-tally.ensures.0 ∙ ap (tally_of (levers_of s.face.now)) forces in
     λ i. record {
       forces = (places here ∙ ap eight_places forces) i;

@@ -1,0 +1,34 @@
+-- `triangle` meets its contract: the test is the definition's, of the face's own strengths. Assumes nothing.
+use Rattle.std.proofs.Common.{sym, ap, ◌∙◌, ◌≡◌, Some, None, cond}
+use Rattle.strength.specs.Thickness.{both_too_thick}
+use Rattle.strength.proofs.Ranges.{steel_in_range}
+use Rattle.connection.specs.OneFace.{levers_of, steel_of, triangle_on}
+use Rattle.connection.proofs.FaceAtWork.triangle.Goals as goal
+use Rattle.connection.proofs.FaceAtWork.triangle.Goals.{After-both_too_thick}
+
+pub both_too_thick-requires : goal.both_too_thick-requires
+both_too_thick-requires c =
+    let s = c.args.self.now in
+    let known = s.at_work in
+    let steel = steel_in_range s.column.now s.face.now.beam s.face.now.plate known.column known.face.beam known.face.plate in
+    record { column = known.column; plate = known.face.plate; steel = rw known.strengths steel; bolt = known.bolt }
+
+thick : (c : After-both_too_thick) → let s = c.args.self.now in
+    c.both_too_thick.result ≡ both_too_thick s.column.now s.face.now.plate (steel_of s.column.now s.face.now) s.bolt
+thick c =
+    let s = c.args.self.now in
+    c.both_too_thick.ensures ∙ ap (λ steel. both_too_thick s.column.now s.face.now.plate steel s.bolt) s.at_work.strengths
+
+pub returns-then-not-both_too_thick : goal.returns-then-not-both_too_thick
+unfolding triangle_on
+returns-then-not-both_too_thick c =
+    let here = (goal.at.returns-then-not-both_too_thick c).After-both_too_thick in
+    let face = c.args.self.now.face.now in
+    sym (ap (λ t. cond t (Some (record { levers = levers_of face; reference = face.extended })) None) (sym (thick here) ∙ c.if-not-both_too_thick.true))
+
+pub returns : goal.returns
+unfolding triangle_on
+returns c =
+    let here = (goal.at.returns c).After-both_too_thick in
+    let face = c.args.self.now.face.now in
+    sym (ap (λ t. cond t (Some (record { levers = levers_of face; reference = face.extended })) None) (sym (thick here) ∙ c.if-not-both_too_thick.false))
