@@ -161,9 +161,9 @@ checked_H = record {
   stated = 0xAC ∷ 0x02 ∷ 0 ∷ 300 ∷ 2 ∷ [];
 }
 
--- I: its face by fields 1 and 2, N and the first two levers, ex 500 if extended; its column; the joint
-face_I_rows : (count extended : ℕ) (axial : ℤ) (first second : ℕ) → Face
-face_I_rows count extended axial first second = record {
+-- I: its face by fields 1 and 2, N and the first four levers, ex 500 if extended; its column, by its flange; the joint
+face_I_rows : (count extended : ℕ) (axial : ℤ) (levers : List ℕ) → Face
+face_I_rows count extended axial levers = record {
   rows = count;
   extended = extended;
   beam = record { grade = 275; depth = 3071; width = 1657; flange = 118; web = 67 };
@@ -172,38 +172,38 @@ face_I_rows count extended axial first second = record {
   welds = record { flange = 80; web = 60; length = 2000 };
   shear_rows = 1;
   loads = record { axial = axial; shear = 57000; moment = 50000 };
-  levers = first ∷ second ∷ 0 ∷ 0 ∷ 0 ∷ 0 ∷ 0 ∷ 0 ∷ [];
+  levers = levers ++ replicate 4 0;
 }
 
 face_I : (count : ℕ) (axial : ℤ) → Face
 unfolding face_I_rows
-face_I count axial = face_I_rows count 0 axial 2400 0
+face_I count axial = face_I_rows count 0 axial (2400 ∷ 0 ∷ 0 ∷ 0 ∷ [])
 
-column_I : Column
-column_I = record {
+column_I : (flange : ℕ) → Column
+column_I flange = record {
   grade = 275;
   depth = 5283;
   width = 2087;
-  flange = 132;
+  flange = flange;
   web = 96;
   radius = 127;
   clear = 4765;
   end_distance = 15000;
 }
 
--- with one face and bolts of a diameter
-joint_I_face : (diameter : ℕ) → Face → Joint
+-- with one face, a column flange and bolts of a diameter
+joint_I_on : (flange diameter : ℕ) → Face → Joint
 unfolding column_I
-joint_I_face diameter face = record {
-  column = column_I;
+joint_I_on flange diameter face = record {
+  column = column_I flange;
   bolts = record { class = 88; diameter = diameter };
   face = face;
   other = second_face_of no_part.fields no_part.levers;
 }
 
 joint_I : ℤ → Joint
-unfolding joint_I_face face_I
-joint_I axial = joint_I_face 20 (face_I 1 axial)
+unfolding joint_I_on face_I
+joint_I axial = joint_I_on 132 20 (face_I 1 axial)
 
 -- I's file of either kind
 file_I : FileKind → List ℕ
@@ -246,7 +246,7 @@ checked_I_file = record { given = read_I New ++ read_I Old; stated = (0 ∷ 51 �
 both_I : (first second : ℤ) → Joint
 unfolding face_I column_I
 both_I first second = record {
-  column = column_I;
+  column = column_I 132;
   bolts = record { class = 88; diameter = 20 };
   face = face_I 17 first;
   other = face_I 1 second;
@@ -308,9 +308,9 @@ checked_loading = record {
 
 -- I with a bolt table and a diameter: refusal, field, and the first row's force
 own_I : BoltTable → (diameter : ℕ) → List ℕ
-unfolding joint_I_face face_I
+unfolding joint_I_on face_I
 own_I table diameter =
-    let outcome = worked table (joint_I_face diameter (face_I 1 (pos 0))) in
+    let outcome = worked table (joint_I_on 132 diameter (face_I 1 (pos 0))) in
     outcome.refusal.number ∷ outcome.refusal.field ∷ take 1 outcome.result.forces
 
 -- M20 as built in, M22, a diameter that the table doesn't have, and M22 of a table that loading refuses
@@ -324,9 +324,10 @@ checked_I_own = record {
 
 -- I with two rows at these levers: the refusal
 pair_I : (extended first second : ℕ) → List ℕ
-unfolding joint_I_face face_I_rows
+unfolding joint_I_on face_I_rows
 pair_I extended first second =
-    (worked built_in (joint_I_face 20 (face_I_rows 2 extended (pos 0) first second))).refusal.number ∷ []
+    let face = face_I_rows 2 extended (pos 0) (first ∷ second ∷ 0 ∷ 0 ∷ []) in
+    (worked built_in (joint_I_on 132 20 face)).refusal.number ∷ []
 
 -- rows 25δ = 500 apart, and 499; equal levers, which are too close as well; 499 apart with the first row out of place; and with the first
 -- above the flange, 500 and 499 apart
@@ -337,10 +338,29 @@ checked_I_apart = record {
   stated = 0 ∷ 19 ∷ 11 ∷ 19 ∷ 0 ∷ 19 ∷ [];
 }
 
+-- I with four rows, a column flange, and tension that lifts the cap out of the way: the refusal and the forces of the rows
+four_I : (flange extended : ℕ) (levers : List ℕ) → List ℕ
+unfolding joint_I_on face_I_rows
+four_I flange extended levers =
+    let outcome = worked built_in (joint_I_on flange 20 (face_I_rows 4 extended (neg_ℤ (pos 1000000)) levers)) in
+    outcome.refusal.number ∷ take 4 outcome.result.forces
+
+-- The plate is too thick for the bolts, and the flange isn't at 182 and is at 183: row 3 then gets no more than 274400 × 1400 ÷ 2400, which
+-- leaves more to row 4, and that no more than 274400 × 900 ÷ 2400. With row 1 above the beam flange the triangle hangs from row 2.
+checked_I_thick : Checked
+unfolding four_I
+checked_I_thick = record {
+  given = four_I 182 0 (2400 ∷ 1900 ∷ 1400 ∷ 900 ∷ []) ++ four_I 183 0 (2400 ∷ 1900 ∷ 1400 ∷ 900 ∷ [])
+      ++ four_I 183 1 (3393 ∷ 2893 ∷ 1900 ∷ 900 ∷ []);
+  stated = (0 ∷ 274400 ∷ 189150 ∷ 184911 ∷ 97066 ∷ []) ++ (0 ∷ 274400 ∷ 190898 ∷ 160066 ∷ 102900 ∷ [])
+      ++ (0 ∷ 226748 ∷ 238550 ∷ 156669 ∷ 74211 ∷ []);
+}
+
 unfoldable pub table : List Checked
 unfolding checked_A checked_B checked_C checked_A_raised checked_C_raised checked_D checked_E checked_F checked_G checked_H
     checked_I checked_I_pushed checked_I_file checked_I_both checked_I_panel checked_loading checked_I_own checked_I_apart
+    checked_I_thick
 table =
     checked_A ∷ checked_B ∷ checked_C ∷ checked_A_raised ∷ checked_C_raised ∷ checked_D ∷ checked_E ∷ checked_F ∷ checked_G ∷ checked_H
     ∷ checked_I ∷ checked_I_pushed ∷ checked_I_file ∷ checked_I_both ∷ checked_I_panel ∷ checked_loading ∷ checked_I_own
-    ∷ checked_I_apart ∷ []
+    ∷ checked_I_apart ∷ checked_I_thick ∷ []
