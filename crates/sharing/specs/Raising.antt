@@ -1,8 +1,9 @@
 -- How far one limit moves the figure: what the limit of one row group, raised, does to sums and moment (rule 7.3).
 -- Assumes nothing.
-use Rattle.std.specs.Prelude.{◌≡◌, ℕ, ◌+◌, ◌*◌, ◌≤◌, cond, ◌&&◌, List, get_or, take, eqb}
+use Rattle.std.specs.Prelude.{◌≡◌, ℕ, ◌+◌, ◌*◌, ◌≤◌, ◌<◌, cond, ◌&&◌, List, get_or, take, eqb, Some}
 use Rattle.sharing.specs.Groups.{Table, total}
 use Rattle.sharing.specs.Sharing.{shared, Falling, moment}
+use Rattle.sharing.specs.Triangle.{Triangle, limits_in}
 
 -- The limit of the group of rows `first` to `last` goes up by so many newtons.
 pub record Raise : Type 0 where
@@ -29,3 +30,9 @@ pub record MovesWithin (raise : Raise) (n : ℕ) (before after : List ℕ) : Typ
 -- The theorem about tables, for any count of rows. Where `first` to `last` are no group of the n rows, nothing moves.
 abbrev pub SharedMovesWithin : Raise → Table → ℕ → Type 0
 SharedMovesWithin raise limit n = MovesWithin raise n (shared limit n) (shared (raised raise limit) n)
+
+-- The same in a triangle (rule 6.5), where the group begins below the reference row: that row's force stays, and with it the added limits.
+abbrev pub MovesWithinTriangle : Raise → Triangle → Table → ℕ → Type 0
+MovesWithinTriangle raise triangle limit n =
+    triangle.reference < raise.first
+    → MovesWithin raise n (shared (limits_in (Some triangle) limit n) n) (shared (limits_in (Some triangle) (raised raise limit) n) n)
