@@ -1,23 +1,24 @@
 -- Sharing in a triangle or without: the limits that are shared are the list's, of which the triangle lowers those of single rows, and the
 -- most that it leaves a row is worked from forces of which the reference row's is final. Assumes nothing.
-use Rattle.std.specs.Prelude.{Option, Some, None}
+use Rattle.std.specs.Prelude.{Option, Some, None, unwrap_or, IfSome}
 use Rattle.std.proofs.Math.ListN.{get_or-append}
 use mathlib.Core.Path.{◌≡◌, refl, sym, ap, ◌∙◌}
 use mathlib.Core.Bool.{Bool, true, false, cond}
-use Prim.Native.Nat.{ℕ, ◌<◌, min}
-use native.Mathlib.Nat.{le_refl}
+use Prim.Native.Nat.{ℕ, ◌*◌, ◌≤◌, ◌<◌, min}
+use native.Mathlib.Nat.{le_refl, le_trans, mul-le-mul, div-le_self}
 use native.Mathlib.Omega.{arith}
 use mathlib.Core.List.{List}
 use lib.ListN.{get_or, take}
 use lib.Seq.{get_or-take}
 use lib.Dec.{ltb}
 use borrow.Author.Tests.{ltb-true, ltb-false}
+use Rattle.joint.specs.Ranges.{most_lever}
 use Rattle.sharing.specs.Groups.{Table, listed, most_limit}
 use Rattle.sharing.specs.Sharing.{forces_down_to, shared}
 use Rattle.sharing.specs.Triangle.{Triangle, added_limit, with_added, reference_force, limits_in}
 use Rattle.sharing.proofs.Sums.{length_forces, take_shared}
 use Rattle.sharing.proofs.Triangle.{added_elsewhere, added_on_row, added_le, reference_force_stays}
-use Rattle.allocation.specs.Steps.{Shareable, most_by}
+use Rattle.allocation.specs.Steps.{Shareable, MostAsked, most_by}
 use Rattle.allocation.proofs.Rows.{RowsLowered, SharedDownTo, limit_le_most}
 
 module _ (n : ℕ) (limits : List ℕ) where
@@ -40,23 +41,36 @@ module _ (n : ℕ) (limits : List ℕ) where
       ∙ get_or-take row (shared table n) k 0 early
 
   module _ (s : Shareable n limits) (row : ℕ) (inside : row < n) where
-    -- without an added limit a row gets less than the most
     by_the_list : listed n limits row row ≡ min (listed n limits row row) most_limit
     by_the_list = omega (arith, limit_le_most n limits s row row (le_refl row) inside)
 
-    -- the limit of the row alone is its limit in the list, or the most that it gets
+    -- the limit of the row alone is its limit in the list, or the most that the triangle leaves it
     pub single_limit : (triangle : Option Triangle) (forces sums : List ℕ) (above : ℕ) (rest : List ℕ)
         → SharedDownTo n limits (limits_in triangle (listed n limits) n) forces sums above rest row
-        → limits_in triangle (listed n limits) n row row ≡ min (listed n limits row row) (most_by triangle forces row)
+        → limits_in triangle (listed n limits) n row row ≡ min (listed n limits row row) (unwrap_or (most_by triangle forces row) most_limit)
     single_limit None forces sums above rest d = by_the_list
     single_limit (Some t) forces sums above rest d = go (ltb t.reference row) refl
       where
         go : (below : Bool) → ltb t.reference row ≡ below
             → with_added t (reference_force t (listed n limits) n) (listed n limits) row row
-            ≡ min (listed n limits row row) (cond below (added_limit t (get_or forces t.reference 0) row) most_limit)
+            ≡ min (listed n limits row row) (unwrap_or (cond below (Some (added_limit t (get_or forces t.reference 0) row)) None) most_limit)
         go true e =
             let below = ltb-true _ _ e in
             added_on_row t _ _ row below
             ∙ ap (λ force. min (listed n limits row row) (added_limit t force row))
             (sym (force_in_place _ _ _ _ _ row t.reference d below ∙ reference_force_stays t _ _ n))
         go false e = added_elsewhere t _ _ row row (λ below same. absurd (omega (arith, ltb-false _ _ e))) ∙ by_the_list
+
+-- What the triangle leaves a row is no larger than a product that can be held.
+pub most_small : (triangle : Option Triangle) (forces : List ℕ) (row : ℕ) → MostAsked triangle forces row
+    → IfSome (most_by triangle forces row) (λ most. most ≤ most_limit * most_lever)
+most_small None forces row asked = tt
+most_small (Some t) forces row asked = go (ltb t.reference row)
+  where
+    product : get_or forces t.reference 0 * get_or t.levers row 0 ≤ most_limit * most_lever
+    product = mul-le-mul (asked.bounded t.reference) (asked.fits.high row asked.inside)
+
+    go : (below : Bool)
+        → IfSome (cond below (Some (added_limit t (get_or forces t.reference 0) row)) None) (λ most. most ≤ most_limit * most_lever)
+    go true = le_trans (div-le_self _ _) product
+    go false = tt

@@ -90,6 +90,11 @@ module _ (n : ℕ) (limits : List ℕ) (s : Shareable n limits) (table : Table) 
       (λ last. let same : i ≡ r = omega arith in rw same (min-le_right _ _))
       (le-suc_iff.0 h)
 
+  allowed_le_most : (r k : ℕ) → allowed table n r k ≤ most_limit
+  unfolding allowed
+  allowed_le_most zero k = le_refl _
+  allowed_le_most (suc r) k = le_trans (min-le_left _ _) (allowed_le_most r k)
+
   -- all its groups allow no more
   allowed_is_sum : (k : ℕ) → k < n → allowed table n (suc k) k ≡ sum_down_to table n (suc k)
   allowed_is_sum k inside =
@@ -175,42 +180,42 @@ module _ (n : ℕ) (limits : List ℕ) (s : Shareable n limits) (table : Table) 
             ))
             (eq-or-lt_of_le inside)
 
+        -- the sum down to the row
         down : min (get_or sums' row 0) (above + most) ≡ sum_down_to table n (suc row)
         unfolding allowed
         down =
             omega (arith, allowed_is_sum row inside, c.counted row (le_refl row) inside, d.left row (le_refl row) inside, d.sum, own_lowered)
 
-        pub down_grows : above ≤ get_or sums' row 0
-        down_grows = omega (arith, d.sum, down, sum_step table n row)
+        pub counted_le_most : get_or sums' row 0 ≤ most_limit
+        counted_le_most = omega (arith, c.counted row (le_refl row) inside, d.left row (le_refl row) inside, allowed_le_most row row)
 
-        force : min (get_or sums' row 0 - above) most ≡ next_force table n (forces_down_to table n row)
-        force = omega (arith, d.sum, down, down_grows, sum_step table n row)
+        module _ (sum : ℕ) (is : sum ≡ min (get_or sums' row 0) (above + most)) where
+          pub down_grows : above ≤ sum
+          down_grows = omega (arith, d.sum, is, down, sum_step table n row)
 
-        pub down_small : above + min (get_or sums' row 0 - above) most ≤ most_limit
-        down_small = omega (arith, down, down_grows, sum_le_most (suc row) inside)
+          force : sum - above ≡ next_force table n (forces_down_to table n row)
+          force = omega (arith, d.sum, is, down, sum_step table n row)
 
-        stored : set forces row (min (get_or sums' row 0 - above) most)
-            ≡ forces_down_to table n (suc row) ++ replicate (row_counts.high - suc row) 0
-        unfolding forces_down_to
-        stored =
-            let places : row_counts.high - row ≡ suc (row_counts.high - suc row) = omega (arith, inside, s.rows) in
-            ap₂ (λ xs x. set xs row x) (d.got ∙ ap (λ m. forces_down_to table n row ++ replicate m 0) places) force
-            ∙ fill (forces_down_to table n row) row (row_counts.high - suc row) (next_force table n (forces_down_to table n row))
-            (length_forces table n row)
+          stored : set forces row (sum - above) ≡ forces_down_to table n (suc row) ++ replicate (row_counts.high - suc row) 0
+          unfolding forces_down_to
+          stored =
+              let places : row_counts.high - row ≡ suc (row_counts.high - suc row) = omega (arith, inside, s.rows) in
+              ap₂ (λ xs x. set xs row x) (d.got ∙ ap (λ m. forces_down_to table n row ++ replicate m 0) places) force
+              ∙ fill (forces_down_to table n row) row (row_counts.high - suc row) (next_force table n (forces_down_to table n row))
+              (length_forces table n row)
 
-        pub turn : (got : ℕ) → got ≡ min (get_or sums' row 0 - above) most
-            → SharedDownTo n limits table (set forces row got) sums' (above + got) (drop (n - row) rest) (row + 1)
-        unfolding groups_above
-        turn got e =
-            rw (add-one row, e)
-            (record {
-              rows = inside;
-              place = ap (drop (n - row)) d.place ∙ drop-drop (n - row) (groups_above n row) limits;
-              sum = omega (arith, down, down_grows);
-              got = stored;
-              size = c.size ∙ d.size;
-              left = λ k h under. counted_is_allowed k h under;
-            })
+          pub turn : SharedDownTo n limits table (set forces row (sum - above)) sums' sum (drop (n - row) rest) (row + 1)
+          unfolding groups_above
+          turn =
+              rw (add-one row)
+              (record {
+                rows = inside;
+                place = ap (drop (n - row)) d.place ∙ drop-drop (n - row) (groups_above n row) limits;
+                sum = is ∙ down;
+                got = stored;
+                size = c.size ∙ d.size;
+                left = λ k h under. counted_is_allowed k h under;
+              })
 
   -- places past the last row are 0
   pub finish : (forces sums : List ℕ) (above : ℕ) (rest : List ℕ) (row : ℕ) → SharedDownTo n limits table forces sums above rest row

@@ -37,10 +37,10 @@ pub record MostAsked (triangle : Option Triangle) (forces : List ℕ) (row : ℕ
   pub inside : row < n
   pub bounded : (k : ℕ) → get_or forces k 0 ≤ most_limit
 
--- the most that a row gets by itself, whatever its groups leave it; where the triangle adds no limit, more than any row gets
-abbrev pub most_by : Option Triangle → (forces : List ℕ) (row : ℕ) → ℕ
-most_by None forces row = most_limit
-most_by (Some t) forces row = cond (ltb t.reference row) (added_limit t (get_or forces t.reference 0) row) most_limit
+-- the most that a row gets by itself, whatever its groups leave it; none where the triangle adds no limit
+abbrev pub most_by : Option Triangle → (forces : List ℕ) (row : ℕ) → Option ℕ
+most_by None forces row = None
+most_by (Some t) forces row = cond (ltb t.reference row) (Some (added_limit t (get_or forces t.reference 0) row)) None
 
 -- The limits of the groups that begin at `row`, the shortest first, as a table; it is asked for no other row.
 abbrev pub own_table : (limits : List ℕ) (row : ℕ) → Table

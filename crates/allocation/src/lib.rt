@@ -68,7 +68,9 @@ pub struct LentTriangle<'a> {
     pub reference: usize,
 }
 
-// The sharing itself, in a triangle or without. Open for Work, which has shown that there is a limit for each group and none too large.
+// The sharing itself, in a triangle or without. Open for Work, which has shown that there is a limit for each group and none too large. By
+// index: the most of a row is asked of the forces above it. Inlined, so that Allocate has the loop without a triangle.
+#[inline(always)]
 pub fn share(count: usize, limits: &[u64], triangle: Option<LentTriangle>) -> [u64; 8]
     requires { Shareable count limits.now × TriangleFits (triangle_of triangle) count }
     ensures { result ≡ eight_places (shared (limits_in (triangle_of triangle.entry) (listed count limits.now) count) count) }
@@ -80,27 +82,27 @@ pub fn share(count: usize, limits: &[u64], triangle: Option<LentTriangle>) -> [u
     for row in 0..count {
         let (own, further) = rest.split_at(count - row);
         count_groups(&mut sums, own, row, count, above);
-        let force = (sums[row] - above).min(most_in(triangle, &forces, row));
-        forces[row] = force;
-        above += force;
+        let sum = match most_in(triangle, &forces, row) {
+            Some(most) => sums[row].min(above + most),
+            None => sums[row],
+        };
+        forces[row] = sum - above;
+        above = sum;
         rest = further;
     }
     forces
 }
 
-// The most that the triangle leaves a row, by the forces of those above it.
-fn most_in(triangle: Option<LentTriangle>, forces: &[u64; 8], row: usize) -> u64
+// The most that the triangle leaves a row, by the forces of those above it; none where it adds no limit.
+fn most_in(triangle: Option<LentTriangle>, forces: &[u64; 8], row: usize) -> Option<u64>
     requires { MostAsked (triangle_of triangle) forces.now row }
     ensures { result ≡ most_by (triangle_of triangle.entry) forces.now row }
 {
-    let Some(triangle) = triangle else {
-        return MOST;
-    };
-    let reference = triangle.reference;
+    let LentTriangle { levers, reference } = triangle?;
     if row <= reference {
-        return MOST;
+        return None;
     }
-    forces[reference] * u64::from(triangle.levers[row]) / u64::from(triangle.levers[reference])
+    Some(forces[reference] * u64::from(levers[row]) / u64::from(levers[reference]))
 }
 
 // Counts the groups that begin at `row` into the sums from the top. From the longest group to the shortest, so that each limit is lowered
