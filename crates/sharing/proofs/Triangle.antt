@@ -31,11 +31,8 @@ one_row : (xs : List ℕ) (row : ℕ) → group_sum xs row row ≡ get_or xs row
 one_row xs row = omega (arith, above_and_group xs row row (le_refl row), next_sum xs row)
 
 module _ (t : Triangle) (force : ℕ) (limit : Table) where
-  abbrev lower : Table
-  lower = with_added t force limit
-
   -- a longer group, or a row that isn't below the reference
-  pub added_elsewhere : (i j : ℕ) → (t.reference < i → i ≡ j → ⊥) → lower i j ≡ limit i j
+  pub added_elsewhere : (i j : ℕ) → (t.reference < i → i ≡ j → ⊥) → with_added t force limit i j ≡ limit i j
   unfolding with_added
   added_elsewhere i j other = go (ltb t.reference i) (eqb i j) refl refl
     where
@@ -45,11 +42,11 @@ module _ (t : Triangle) (force : ℕ) (limit : Table) where
       go true false es ee = refl
       go false e es ee = refl
 
-  pub added_on_row : (row : ℕ) → t.reference < row → lower row row ≡ min (limit row row) (added_limit t force row)
+  pub added_on_row : (row : ℕ) → t.reference < row → with_added t force limit row row ≡ min (limit row row) (added_limit t force row)
   unfolding with_added
   added_on_row row below = rw (lt-ltb t.reference row below, eq-eqb row row refl) refl
 
-  pub added_le : (i j : ℕ) → lower i j ≤ limit i j
+  pub added_le : (i j : ℕ) → with_added t force limit i j ≤ limit i j
   unfolding with_added
   added_le i j = go (ltb t.reference i && eqb i j)
     where
@@ -57,39 +54,43 @@ module _ (t : Triangle) (force : ℕ) (limit : Table) where
       go true = min-le_left _ _
       go false = le_refl _
 
-  pub reference_stays : (n : ℕ) → ReferenceStays t force limit n
-  reference_stays n k above = rows_agree lower limit n k (λ i j early h inside. added_elsewhere i j (λ below same. omega arith))
+pub reference_stays : (t : Triangle) (force : ℕ) (limit : Table) (n : ℕ) → ReferenceStays t force limit n
+reference_stays t force limit n k above =
+    rows_agree (with_added t force limit) limit n k (λ i j early h inside. added_elsewhere t force limit i j (λ below same. omega arith))
 
-  -- so its force is the same in both sharings
-  pub reference_force_stays : (n : ℕ) → get_or (shared lower n) t.reference 0 ≡ reference_force t limit n
-  reference_force_stays n =
-      sym (get_or-take (suc t.reference) (shared lower n) t.reference 0 (omega arith))
-      ∙ ap (λ xs. get_or xs t.reference 0) (reference_stays n (suc t.reference) (omega arith))
-      ∙ get_or-take (suc t.reference) (shared limit n) t.reference 0 (omega arith)
+-- so the reference row's force is the same in both sharings
+pub reference_force_stays : (t : Triangle) (force : ℕ) (limit : Table) (n : ℕ)
+    → get_or (shared (with_added t force limit) n) t.reference 0 ≡ reference_force t limit n
+reference_force_stays t force limit n =
+    sym (get_or-take (suc t.reference) (shared (with_added t force limit) n) t.reference 0 (omega arith))
+    ∙ ap (λ xs. get_or xs t.reference 0) (reference_stays t force limit n (suc t.reference) (omega arith))
+    ∙ get_or-take (suc t.reference) (shared limit n) t.reference 0 (omega arith)
 
-  module _ (n : ℕ) (forces : List ℕ) where
-    le_added : Competes limit n forces → KeepsAdded t force n forces → (i j : ℕ) → i ≤ j → j < n → group_sum forces i j ≤ lower i j
-    unfolding with_added
-    le_added c kept i j h inside = go (ltb t.reference i) (eqb i j) refl refl
-      where
-        go : (s e : Bool) → ltb t.reference i ≡ s → eqb i j ≡ e
-            → group_sum forces i j ≤ cond (s && e) (min (limit i j) (added_limit t force i)) (limit i j)
-        go true true es ee =
-            let own : group_sum forces i j ≡ get_or forces i 0 = ap (group_sum forces i) (sym (eqb-true _ _ ee)) ∙ one_row forces i in
-            le-min (c.keeps i j h inside) (rw own (kept i (ltb-true _ _ es) (omega arith)))
-        go true false es ee = c.keeps i j h inside
-        go false e es ee = c.keeps i j h inside
+-- keeping the added limits is keeping them as limits of groups
+module _ (t : Triangle) (force : ℕ) (limit : Table) (n : ℕ) (forces : List ℕ) where
+  le_added : Competes limit n forces → KeepsAdded t force n forces → (i j : ℕ) → i ≤ j → j < n
+      → group_sum forces i j ≤ with_added t force limit i j
+  unfolding with_added
+  le_added c kept i j h inside = go (ltb t.reference i) (eqb i j) refl refl
+    where
+      go : (s e : Bool) → ltb t.reference i ≡ s → eqb i j ≡ e
+          → group_sum forces i j ≤ cond (s && e) (min (limit i j) (added_limit t force i)) (limit i j)
+      go true true es ee =
+          let own : group_sum forces i j ≡ get_or forces i 0 = ap (group_sum forces i) (sym (eqb-true _ _ ee)) ∙ one_row forces i in
+          le-min (c.keeps i j h inside) (rw own (kept i (ltb-true _ _ es) (omega arith)))
+      go true false es ee = c.keeps i j h inside
+      go false e es ee = c.keeps i j h inside
 
-    pub added_are_limits : Competes lower n forces ↔ (Competes limit n forces × KeepsAdded t force n forces)
-    added_are_limits = (
-      (λ c. (
-        record { rows = c.rows; keeps = λ i j h inside. le_trans (c.keeps i j h inside) (added_le i j) },
-        (λ row below inside.
-            let kept = c.keeps row row (le_refl row) inside in
-            omega (arith, one_row forces row, added_on_row row below)),
-      )),
-      (λ c. record { rows = c.0.rows; keeps = le_added c.0 c.1 }),
-    )
+  added_are_limits : Competes (with_added t force limit) n forces ↔ (Competes limit n forces × KeepsAdded t force n forces)
+  added_are_limits = (
+    (λ c. (
+      record { rows = c.rows; keeps = λ i j h inside. le_trans (c.keeps i j h inside) (added_le t force limit i j) },
+      (λ row below inside.
+          let kept = c.keeps row row (le_refl row) inside in
+          omega (arith, one_row forces row, added_on_row t force limit row below)),
+    )),
+    (λ c. record { rows = c.0.rows; keeps = le_added c.0 c.1 }),
+  )
 
 -- A list competes under the limits in a triangle, or without, exactly when it competes under the limits and keeps those that are added,
 -- worked from the shared list.
