@@ -9,3 +9,4 @@ pub mod Agreement
 pub mod Cap
 pub mod Raising
 pub mod Triangle
+pub mod Determined

@@ -73,11 +73,15 @@ module _ (limit : Table) (n : ℕ) where
             (omega (arith, e, zero-mul (suc (get_or levers 0 0))))).1),
       )
 
-  -- no list but the shared one is the best: demand 3 alone determines the forces
+  -- no list but the shared one has the largest sums: demand 3 alone determines the forces
+  pub largest_is_shared : (forces : List ℕ) → Competes limit n forces
+      → ((other : List ℕ) → Competes limit n other → (k : ℕ) → total (take k other) ≤ total (take k forces)) → forces ≡ shared limit n
+  largest_is_shared forces c largest =
+      sums_determine forces (shared limit n) (c.rows ∙ sym shared_competes.rows)
+      (λ k. le_antisymm (sum_le_shared forces c k) (largest (shared limit n) shared_competes k))
+
   pub best_is_shared : (forces : List ℕ) → Best limit n forces → forces ≡ shared limit n
-  best_is_shared forces b =
-      sums_determine forces (shared limit n) (b.competes.rows ∙ sym shared_competes.rows)
-      (λ k. le_antisymm (sum_le_shared forces b.competes k) (b.sums (shared limit n) shared_competes k))
+  best_is_shared forces b = largest_is_shared forces b.competes b.sums
 
   not_passed : (smaller larger : Bool) → (smaller ≡ true → larger ≡ true) → larger ≡ false → smaller ≡ false
   not_passed true larger up fail = sym (up refl) ∙ fail

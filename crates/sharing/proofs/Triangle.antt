@@ -20,7 +20,7 @@ use Rattle.sharing.specs.Triangle.{ReferenceStays, NoneBelowReference}
 use Rattle.sharing.proofs.Totals.{above_and_group}
 use Rattle.sharing.proofs.Agreement.{rows_agree, shared_agrees}
 
-next_sum : (xs : List ℕ) (row : ℕ) → total (take (suc row) xs) ≡ total (take row xs) + get_or xs row 0
+pub next_sum : (xs : List ℕ) (row : ℕ) → total (take (suc row) xs) ≡ total (take row xs) + get_or xs row 0
 next_sum [] zero = refl
 next_sum [] (suc row) = refl
 next_sum (x ∷ xs) zero = omega arith
@@ -81,7 +81,7 @@ module _ (t : Triangle) (force : ℕ) (limit : Table) (n : ℕ) (forces : List �
       go true false es ee = c.keeps i j h inside
       go false e es ee = c.keeps i j h inside
 
-  added_are_limits : Competes (with_added t force limit) n forces ↔ (Competes limit n forces × KeepsAdded t force n forces)
+  pub added_are_limits : Competes (with_added t force limit) n forces ↔ (Competes limit n forces × KeepsAdded t force n forces)
   added_are_limits = (
     (λ c. (
       record { rows = c.rows; keeps = λ i j h inside. le_trans (c.keeps i j h inside) (added_le t force limit i j) },
