@@ -93,7 +93,8 @@ uint32_t jinqewan_built_in(uint32_t *table, size_t table_length);
 uint32_t jinqewan_load(const uint32_t *table, size_t table_length, uint32_t *in_force, size_t in_force_length);
 
 /* The joint worked by a bolt table, into `result`, which has 35 places. To this call a table that jinqewan_load would refuse has no sizes:
- * field 4 is then refused by 10, whatever it is. */
+ * field 4 is then refused by 10, whatever it is. Where column flange and plate are both too thick for the bolts, which was refused by 14
+ * once, the rows go by P207's triangle. */
 uint32_t jinqewan_work(const uint32_t *table, size_t table_length, const uint32_t *fields, size_t fields_length, uint64_t *result,
     size_t result_length);
 
