@@ -1,4 +1,4 @@
--- Rule 6.5: whether column flange and plate are both too thick for the bolts to share the force plastically.
+-- Rule 6.5: whether column flange and plate are both too thick for the bolts.
 -- Assumes nothing.
 use Rattle.std.specs.Prelude.{ℕ, ◌*◌, Bool, ◌&&◌, ltb}
 use Rattle.joint.specs.declared.Column.{Column}

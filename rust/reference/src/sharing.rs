@@ -31,10 +31,11 @@ pub fn allocate(count: usize, limits: &[u64]) -> Result<[u64; ROWS], AllocateRef
 
 /// As `allocate`, for limits that are known to be enough and small enough.
 pub fn share(count: usize, limits: &[u64]) -> [u64; ROWS] {
-    share_keeping(count, limits, |_, sum, _, _| sum)
+    share_with(count, limits, |_, sum, _, _| sum)
 }
 
-/// As `share`, but by the triangle: each row below the reference row gets no more than its added limit.
+/// As `share`, but by the triangle: each row below the reference row gets no more than its added limit. Not inlined, so that the code for
+/// joints without a triangle stays together.
 #[inline(never)]
 pub fn share_in_triangle(
     count: usize,
@@ -42,7 +43,7 @@ pub fn share_in_triangle(
     reference: usize,
     levers: &[u32; ROWS],
 ) -> [u64; ROWS] {
-    share_keeping(count, limits, |row, sum, above, forces| {
+    share_with(count, limits, |row, sum, above, forces| {
         if row > reference {
             sum.min(above + added_limit(forces[reference], levers[row], levers[reference]))
         } else {
@@ -56,13 +57,13 @@ fn added_limit(reference_force: u64, lever: u32, reference_lever: u32) -> u64 {
     reference_force * u64::from(lever) / u64::from(reference_lever)
 }
 
-/// The sum down to a row is the least over groups that end at it, and of that what is `kept`, which goes by the row, the sum above it and
-/// the forces above it. Each limit is lowered once, and counted once into the sums of the rows it reaches.
+/// The sum down to a row is the least over groups that end at it, and no more than what `bounded` leaves of it, which goes by the row, that
+/// sum, the sum above the row and the forces above it. Each limit is lowered once, and counted once into the sums of the rows it reaches.
 #[inline]
-fn share_keeping(
+fn share_with(
     count: usize,
     limits: &[u64],
-    kept: impl Fn(usize, u64, u64, &[u64; ROWS]) -> u64,
+    bounded: impl Fn(usize, u64, u64, &[u64; ROWS]) -> u64,
 ) -> [u64; ROWS] {
     let mut forces = [0; ROWS];
     let mut sums = [u64::MAX; ROWS];
@@ -75,7 +76,7 @@ fn share_keeping(
             lowered = lowered.min(limit);
             *sum = (*sum).min(above + lowered);
         }
-        let sum = kept(first, sums[first], above, &forces);
+        let sum = bounded(first, sums[first], above, &forces);
         forces[first] = sum - above;
         above = sum;
         rest = others;

@@ -152,6 +152,39 @@ mod tests {
         assert!(too_thick(220));
     }
 
+    /// Of a flange and a plate of one grade and thickness both are too thick where one is.
+    #[test]
+    fn one_part_and_both() {
+        for (class, diameter) in [(46, 12), (88, 20), (88, 24), (109, 24), (109, 30)] {
+            let bolts = Bolts { class, diameter };
+            let bolt = BoltStrengths::of(&bolts, 3530);
+            for (grade, thickness) in [275, 355]
+                .into_iter()
+                .flat_map(|grade| (40..=500).map(move |thickness| (grade, thickness)))
+            {
+                let plate = Plate {
+                    grade,
+                    thickness,
+                    ..Plate::default()
+                };
+                let column = Column {
+                    grade,
+                    flange: thickness,
+                    ..Column::default()
+                };
+                let face = Face {
+                    plate,
+                    ..Face::default()
+                };
+                let steel = SteelStrengths::of(&column, &face);
+                assert_eq!(
+                    is_too_thick(&bolts, grade, thickness),
+                    both_too_thick(&column, &plate, &steel, &bolt)
+                );
+            }
+        }
+    }
+
     #[test]
     fn steel_steps_by_thickness() {
         let strengths = [160, 161, 400, 401, 500].map(|thickness| steel(275, thickness));

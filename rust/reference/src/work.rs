@@ -98,7 +98,8 @@ fn work_face(
     })
 }
 
-/// Where column flange and plate are both too thick, the rows below the first one under the beam flange go by the triangle.
+/// Where column flange and plate are both too thick, the rows below the first one under the beam flange go by the triangle. Inlined, as
+/// the limits below, so that no table is copied.
 #[inline(always)]
 fn row_forces(
     column: &Column,
