@@ -18,10 +18,10 @@ use Rattle.sharing.specs.Sharing.{forces_down_to, shared}
 use Rattle.sharing.specs.Triangle.{Triangle, added_limit, with_added, reference_force, limits_in}
 use Rattle.sharing.proofs.Sums.{length_forces, take_shared}
 use Rattle.sharing.proofs.Triangle.{added_elsewhere, added_on_row, added_le, reference_force_stays}
-use Rattle.allocation.specs.Steps.{Shareable, MostAsked, most_by}
+use Rattle.allocation.specs.Steps.{Shareable, AddedAsked, added_on}
 use Rattle.allocation.proofs.Rows.{RowsLowered, SharedDownTo, limit_le_most}
 
-module _ (n : ℕ) (limits : List ℕ) where
+module _ {n : ℕ} {limits : List ℕ} where
   pub rows_lowered : (triangle : Option Triangle) → RowsLowered n limits (limits_in triangle (listed n limits) n)
   rows_lowered None = record { longer = λ i j h inside. refl; single = λ row inside. le_refl _ }
   rows_lowered (Some t) = record {
@@ -30,9 +30,9 @@ module _ (n : ℕ) (limits : List ℕ) where
   }
 
   -- of the rows that have their forces, each place has its row's
-  force_in_place : (table : Table) (forces sums : List ℕ) (above : ℕ) (rest : List ℕ) (row k : ℕ)
-      → SharedDownTo n limits table forces sums above rest row → k < row → get_or forces k 0 ≡ get_or (shared table n) k 0
-  force_in_place table forces sums above rest row k d early =
+  force_in_place : {table : Table} {forces sums : List ℕ} {above : ℕ} {rest : List ℕ} {row : ℕ}
+      → SharedDownTo n limits table forces sums above rest row → (k : ℕ) → k < row → get_or forces k 0 ≡ get_or (shared table n) k 0
+  force_in_place {table = table} {row = row} d k early =
       let rows : min row n ≡ row = omega (arith, d.rows) in
       let got : take row (shared table n) ≡ forces_down_to table n row = rw rows at (take_shared table n row) in
       ap (λ xs. get_or xs k 0) d.got
@@ -40,16 +40,16 @@ module _ (n : ℕ) (limits : List ℕ) where
       ∙ ap (λ xs. get_or xs k 0) (sym got)
       ∙ get_or-take row (shared table n) k 0 early
 
-  module _ (s : Shareable n limits) (row : ℕ) (inside : row < n) where
+  module _ (s : Shareable n limits) {row : ℕ} (inside : row < n) where
     by_the_list : listed n limits row row ≡ min (listed n limits row row) most_limit
     by_the_list = omega (arith, limit_le_most n limits s row row (le_refl row) inside)
 
     -- the limit of the row alone is its limit in the list, or the most that the triangle leaves it
-    pub single_limit : (triangle : Option Triangle) (forces sums : List ℕ) (above : ℕ) (rest : List ℕ)
+    pub single_limit : (triangle : Option Triangle) {forces sums : List ℕ} {above : ℕ} {rest : List ℕ}
         → SharedDownTo n limits (limits_in triangle (listed n limits) n) forces sums above rest row
-        → limits_in triangle (listed n limits) n row row ≡ min (listed n limits row row) (unwrap_or (most_by triangle forces row) most_limit)
-    single_limit None forces sums above rest d = by_the_list
-    single_limit (Some t) forces sums above rest d = go (ltb t.reference row) refl
+        → limits_in triangle (listed n limits) n row row ≡ min (listed n limits row row) (unwrap_or (added_on triangle forces row) most_limit)
+    single_limit None d = by_the_list
+    single_limit (Some t) {forces = forces} d = go (ltb t.reference row) refl
       where
         go : (below : Bool) → ltb t.reference row ≡ below
             → with_added t (reference_force t (listed n limits) n) (listed n limits) row row
@@ -58,14 +58,14 @@ module _ (n : ℕ) (limits : List ℕ) where
             let below = ltb-true _ _ e in
             added_on_row t _ _ row below
             ∙ ap (λ force. min (listed n limits row row) (added_limit t force row))
-            (sym (force_in_place _ _ _ _ _ row t.reference d below ∙ reference_force_stays t _ _ n))
+            (sym (force_in_place d t.reference below ∙ reference_force_stays t _ _ n))
         go false e = added_elsewhere t _ _ row row (λ below same. absurd (omega (arith, ltb-false _ _ e))) ∙ by_the_list
 
 -- What the triangle leaves a row is no larger than a product that can be held.
-pub most_small : (triangle : Option Triangle) (forces : List ℕ) (row : ℕ) → MostAsked triangle forces row
-    → IfSome (most_by triangle forces row) (λ most. most ≤ most_limit * most_lever)
-most_small None forces row asked = tt
-most_small (Some t) forces row asked = go (ltb t.reference row)
+pub added_small : (triangle : Option Triangle) (forces : List ℕ) (row : ℕ) → AddedAsked triangle forces row
+    → IfSome (added_on triangle forces row) (λ most. most ≤ most_limit * most_lever)
+added_small None forces row asked = tt
+added_small (Some t) forces row asked = go (ltb t.reference row)
   where
     product : get_or forces t.reference 0 * get_or t.levers row 0 ≤ most_limit * most_lever
     product = mul-le-mul (asked.bounded t.reference) (asked.fits.high row asked.inside)

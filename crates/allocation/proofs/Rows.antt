@@ -63,7 +63,7 @@ pub limit_le_most : (n : ℕ) (limits : List ℕ) → Shareable n limits → (i 
 unfolding listed
 limit_le_most n limits s i j h inside = s.bounded (place_of n i j) (omega (arith, groups_inside n i (omega arith)))
 
-module _ (n : ℕ) (limits : List ℕ) (s : Shareable n limits) (table : Table) (t : RowsLowered n limits table) where
+module _ {n : ℕ} {limits : List ℕ} {table : Table} (s : Shareable n limits) (t : RowsLowered n limits table) where
   table_le : (i j : ℕ) → i ≤ j → j < n → table i j ≤ listed n limits i j
   table_le i j h inside =
       ⊎_elim (λ same. rw (← same) (t.single i (omega arith))) (λ longer. le_of_eq (t.longer i j longer inside)) (eq-or-lt_of_le h)
@@ -102,7 +102,7 @@ module _ (n : ℕ) (limits : List ℕ) (s : Shareable n limits) (table : Table) 
       (le_sum table n k _ (λ i h. allowed_le k (suc k) i (omega arith)))
       (sum_le_allowed k (suc k) (le_refl (suc k)) inside)
 
-  pub start : SharedDownTo n limits table (replicate 8 0) (replicate 8 most_limit) 0 limits 0
+  pub start : SharedDownTo n limits table (replicate row_counts.high 0) (replicate row_counts.high most_limit) 0 limits 0
   unfolding sum_down_to forces_down_to groups_above allowed
   start =
       record {
@@ -111,10 +111,10 @@ module _ (n : ℕ) (limits : List ℕ) (s : Shareable n limits) (table : Table) 
         sum = refl;
         got = refl;
         size = refl;
-        left = λ k h inside. get_or-replicate 8 k most_limit 0 (omega (arith, s.rows));
+        left = λ k h inside. get_or-replicate row_counts.high k most_limit 0 (omega (arith, s.rows));
       }
 
-  module _ (forces sums : List ℕ) (above : ℕ) (rest : List ℕ) (row : ℕ) (d : SharedDownTo n limits table forces sums above rest row)
+  module _ {forces sums : List ℕ} {above : ℕ} {rest : List ℕ} {row : ℕ} (d : SharedDownTo n limits table forces sums above rest row)
       (inside : row < n) where
     pub rest_length : n - row ≤ length rest
     rest_length = omega (arith, ap length d.place, length-drop (groups_above n row) limits, groups_inside n row inside, s.enough)
@@ -128,7 +128,7 @@ module _ (n : ℕ) (limits : List ℕ) (s : Shareable n limits) (table : Table) 
         let empty : List ℕ = replicate (row_counts.high - row) 0 in
         omega (arith, sum_le_most row d.rows, at_most_total (got ++ empty) k, total-append got empty, total_zeros (row_counts.high - row)))
 
-    module _ (own : List ℕ) (e : own ≡ take (n - row) rest) where
+    module _ {own : List ℕ} (e : own ≡ take (n - row) rest) where
       -- the limits of the groups that begin at the row are the first of those that are left
       own_limit : (j : ℕ) → row ≤ j → j < n → get_or own (j - row) 0 ≡ listed n limits row j
       unfolding listed
@@ -150,51 +150,60 @@ module _ (n : ℕ) (limits : List ℕ) (s : Shareable n limits) (table : Table) 
         small = omega (arith, d.sum, sum_le_most row d.rows);
       }
 
-      module _ (sums' : List ℕ) (c : Counted (own_table own row) n row above row sums sums') (most : ℕ)
-          (lower : table row row ≡ min (listed n limits row row) most) where
-        -- a longer group's lowered limit is the list's
-        longer_lowered : (k : ℕ) → row < k → k < n → lowered (own_table own row) n row k ≡ lowered table n row k
-        longer_lowered k h under =
-            lowered_agrees (own_table own row) table n row k under
-            (λ last hl under_n. own_limit last (omega arith) under_n ∙ sym (t.longer row last (omega arith) under_n))
+      -- a longer group's lowered limit is the list's
+      longer_lowered : (k : ℕ) → row < k → k < n → lowered (own_table own row) n row k ≡ lowered table n row k
+      longer_lowered k h under =
+          lowered_agrees (own_table own row) table n row k under
+          (λ last hl under_n. own_limit last (omega arith) under_n ∙ sym (t.longer row last (omega arith) under_n))
 
+      -- and the row's own is lower by the most that it gets by itself
+      own_lowered : (most : ℕ) → table row row ≡ min (listed n limits row row) most
+          → lowered table n row row ≡ min (lowered (own_table own row) n row row) most
+      own_lowered most lower =
+          let limit = own_limit row (le_refl row) inside in
+          ⊎_elim
+          (λ last. omega (arith, lowered_last table n row row last, lowered_last (own_table own row) n row row last, limit, lower))
+          (λ longer.
+          omega (
+            arith,
+            lowered_next table n row row longer,
+            lowered_next (own_table own row) n row row longer,
+            limit,
+            lower,
+            longer_lowered (suc row) (omega arith) longer,
+          ))
+          (eq-or-lt_of_le inside)
+
+      module _ {sums' : List ℕ} (c : Counted (own_table own row) n row above row sums sums') where
         counted_is_allowed : (k : ℕ) → row < k → k < n → get_or sums' k 0 ≡ allowed table n (suc row) k
         unfolding allowed
         counted_is_allowed k h under =
             c.counted k (omega arith) under ∙ λ i. min (d.left k (omega arith) under i) (d.sum i + longer_lowered k h under i)
 
-        -- the row's own is lower by the most that it gets
-        own_lowered : lowered table n row row ≡ min (lowered (own_table own row) n row row) most
-        own_lowered =
-            let limit = own_limit row (le_refl row) inside in
-            ⊎_elim
-            (λ last. omega (arith, lowered_last table n row row last, lowered_last (own_table own row) n row row last, limit, lower))
-            (λ longer.
-            omega (
-              arith,
-              lowered_next table n row row longer,
-              lowered_next (own_table own row) n row row longer,
-              limit,
-              lower,
-              longer_lowered (suc row) (omega arith) longer,
-            ))
-            (eq-or-lt_of_le inside)
-
-        -- the sum down to the row
-        down : min (get_or sums' row 0) (above + most) ≡ sum_down_to table n (suc row)
-        unfolding allowed
-        down =
-            omega (arith, allowed_is_sum row inside, c.counted row (le_refl row) inside, d.left row (le_refl row) inside, d.sum, own_lowered)
-
         pub counted_le_most : get_or sums' row 0 ≤ most_limit
         counted_le_most = omega (arith, c.counted row (le_refl row) inside, d.left row (le_refl row) inside, allowed_le_most row row)
 
-        module _ (sum : ℕ) (is : sum ≡ min (get_or sums' row 0) (above + most)) where
+        -- with the sum down to the row held to the most as well
+        module _ (most : ℕ) {sum : ℕ} (lower : table row row ≡ min (listed n limits row row) most)
+            (is : sum ≡ min (get_or sums' row 0) (above + most)) where
+          down : sum ≡ sum_down_to table n (suc row)
+          unfolding allowed
+          down =
+              omega (
+                arith,
+                is,
+                allowed_is_sum row inside,
+                c.counted row (le_refl row) inside,
+                d.left row (le_refl row) inside,
+                d.sum,
+                own_lowered most lower,
+              )
+
           pub down_grows : above ≤ sum
-          down_grows = omega (arith, d.sum, is, down, sum_step table n row)
+          down_grows = omega (arith, d.sum, down, sum_step table n row)
 
           force : sum - above ≡ next_force table n (forces_down_to table n row)
-          force = omega (arith, d.sum, is, down, sum_step table n row)
+          force = omega (arith, d.sum, down, sum_step table n row)
 
           stored : set forces row (sum - above) ≡ forces_down_to table n (suc row) ++ replicate (row_counts.high - suc row) 0
           unfolding forces_down_to
@@ -211,17 +220,17 @@ module _ (n : ℕ) (limits : List ℕ) (s : Shareable n limits) (table : Table) 
               (record {
                 rows = inside;
                 place = ap (drop (n - row)) d.place ∙ drop-drop (n - row) (groups_above n row) limits;
-                sum = is ∙ down;
+                sum = down;
                 got = stored;
                 size = c.size ∙ d.size;
                 left = λ k h under. counted_is_allowed k h under;
               })
 
   -- places past the last row are 0
-  pub finish : (forces sums : List ℕ) (above : ℕ) (rest : List ℕ) (row : ℕ) → SharedDownTo n limits table forces sums above rest row
+  pub finish : {forces sums : List ℕ} {above : ℕ} {rest : List ℕ} {row : ℕ} → SharedDownTo n limits table forces sums above rest row
       → n ≤ row → forces ≡ eight_places (shared table n)
   unfolding eight_places shared
-  finish forces sums above rest row d past =
+  finish {row = row} d past =
       let all : row ≡ n = omega (arith, d.rows) in
       (rw all at d.got) ∙ ap (λ m. forces_down_to table n n ++ replicate (row_counts.high - m) 0) (sym (length_forces table n n))
 

@@ -9,7 +9,7 @@ use Rattle.allocation.specs.declared.LentTriangle.{LentTriangle}
 
 -- At most eight rows, a limit for each group, and none so large that a sum could not be held.
 pub record Shareable (n : ℕ) (limits : List ℕ) : Type 0 where
-  pub rows : n ≤ 8
+  pub rows : n ≤ row_counts.high
   pub enough : group_count n ≤ length limits
   pub bounded : (k : ℕ) → k < group_count n → get_or limits k 0 ≤ most_limit
 
@@ -18,8 +18,8 @@ abbrev pub triangle_of : Option LentTriangle → Option Triangle
 triangle_of None = None
 triangle_of (Some lent) = Some (record { levers = lent.levers.now; reference = lent.reference })
 
--- Levers that a triangle of n rows can be worked from: none is so large that its product with a force could not be held, and the reference
--- row's isn't 0.
+-- Levers that a triangle of n rows can be worked from: one for each row, none so large that its product with a force could not be held, and
+-- the reference row's not 0.
 pub record LeversFit (triangle : Triangle) (n : ℕ) : Type 0 where
   pub rows : length triangle.levers ≡ n
   pub positive : triangle.reference < n → 1 ≤ get_or triangle.levers triangle.reference 0
@@ -29,18 +29,19 @@ pub record LeversFit (triangle : Triangle) (n : ℕ) : Type 0 where
 abbrev pub TriangleFits : Option Triangle → (n : ℕ) → Type 0
 TriangleFits triangle n = IfSome triangle (λ t. LeversFit t n)
 
--- What the most of a row is worked from: a triangle of at most eight rows, this one among them, and forces of which none is too large.
-pub record MostAsked (triangle : Option Triangle) (forces : List ℕ) (row : ℕ) : Type 0 where
+-- What the added limit of a row is worked from: a triangle of at most eight rows, this one among them, and forces of which none is too
+-- large.
+pub record AddedAsked (triangle : Option Triangle) (forces : List ℕ) (row : ℕ) : Type 0 where
   pub n : ℕ
   pub fits : TriangleFits triangle n
   pub few : n ≤ row_counts.high
   pub inside : row < n
   pub bounded : (k : ℕ) → get_or forces k 0 ≤ most_limit
 
--- the most that a row gets by itself, whatever its groups leave it; none where the triangle adds no limit
-abbrev pub most_by : Option Triangle → (forces : List ℕ) (row : ℕ) → Option ℕ
-most_by None forces row = None
-most_by (Some t) forces row = cond (ltb t.reference row) (Some (added_limit t (get_or forces t.reference 0) row)) None
+-- the limit that is added on a row, where there is one
+abbrev pub added_on : Option Triangle → (forces : List ℕ) (row : ℕ) → Option ℕ
+added_on None forces row = None
+added_on (Some t) forces row = cond (ltb t.reference row) (Some (added_limit t (get_or forces t.reference 0) row)) None
 
 -- The limits of the groups that begin at `row`, the shortest first, as a table; it is asked for no other row.
 abbrev pub own_table : (limits : List ℕ) (row : ℕ) → Table
@@ -49,7 +50,7 @@ own_table limits row i j = get_or limits (j - row) 0
 -- What counting the groups that begin at a row goes by: a limit for each, none too large, and what the rows above have got.
 pub record Countable (limits : List ℕ) (row n above : ℕ) : Type 0 where
   pub inside : row < n
-  pub rows : n ≤ 8
+  pub rows : n ≤ row_counts.high
   pub places : n - row ≤ length limits
   pub bounded : (k : ℕ) → k < n - row → get_or limits k 0 ≤ most_limit
   pub small : above ≤ most_limit

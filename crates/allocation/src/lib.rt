@@ -10,7 +10,7 @@ ghost use Rattle.sharing.specs.Triangle.{limits_in};
 ghost use Rattle.sharing.specs.Best.{Best};
 ghost use Rattle.allocation.specs.Allocation.{none_above, allocated};
 ghost use Rattle.allocation.specs.Answers.{number_of, allocation_meaning};
-ghost use Rattle.allocation.specs.Steps.{Shareable, triangle_of, TriangleFits, MostAsked, most_by, own_table, Countable, Counted};
+ghost use Rattle.allocation.specs.Steps.{Shareable, triangle_of, TriangleFits, AddedAsked, added_on, own_table, Countable, Counted};
 
 // No limit above this is taken: refusal 8.
 const MOST: u64 = 4_000_000_000;
@@ -69,7 +69,7 @@ pub struct LentTriangle<'a> {
 }
 
 // The sharing itself, in a triangle or without. Open for Work, which has shown that there is a limit for each group and none too large. By
-// index: the most of a row is asked of the forces above it. Inlined, so that Allocate has the loop without a triangle.
+// index: what the triangle adds on a row is asked of the forces above it. Inlined, so that Allocate has the loop without a triangle.
 #[inline(always)]
 pub fn share(count: usize, limits: &[u64], triangle: Option<LentTriangle>) -> [u64; 8]
     requires { Shareable count limits.now × TriangleFits (triangle_of triangle) count }
@@ -82,8 +82,8 @@ pub fn share(count: usize, limits: &[u64], triangle: Option<LentTriangle>) -> [u
     for row in 0..count {
         let (own, further) = rest.split_at(count - row);
         count_groups(&mut sums, own, row, count, above);
-        let sum = match most_in(triangle, &forces, row) {
-            Some(most) => sums[row].min(above + most),
+        let sum = match added_on(triangle, &forces, row) {
+            Some(added) => sums[row].min(above + added),
             None => sums[row],
         };
         forces[row] = sum - above;
@@ -93,10 +93,10 @@ pub fn share(count: usize, limits: &[u64], triangle: Option<LentTriangle>) -> [u
     forces
 }
 
-// The most that the triangle leaves a row, by the forces of those above it; none where it adds no limit.
-fn most_in(triangle: Option<LentTriangle>, forces: &[u64; 8], row: usize) -> Option<u64>
-    requires { MostAsked (triangle_of triangle) forces.now row }
-    ensures { result ≡ most_by (triangle_of triangle.entry) forces.now row }
+// The limit that the triangle adds on a row, by the forces of those above it; none where it adds none.
+fn added_on(triangle: Option<LentTriangle>, forces: &[u64; 8], row: usize) -> Option<u64>
+    requires { AddedAsked (triangle_of triangle) forces.now row }
+    ensures { result ≡ added_on (triangle_of triangle.entry) forces.now row }
 {
     let LentTriangle { levers, reference } = triangle?;
     if row <= reference {

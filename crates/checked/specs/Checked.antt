@@ -338,22 +338,23 @@ checked_I_apart = record {
   stated = 0 ∷ 19 ∷ 11 ∷ 19 ∷ 0 ∷ 19 ∷ [];
 }
 
--- I with four rows, a column flange, and tension that lifts the cap out of the way: the refusal and the forces of the rows
-four_I : (flange extended : ℕ) (levers : List ℕ) → List ℕ
+-- I with four rows, a column flange, and tension that lifts the cap: the refusal and the forces of the rows
+four_I : (flange extended tension : ℕ) (levers : List ℕ) → List ℕ
 unfolding joint_I_on face_I_rows
-four_I flange extended levers =
-    let outcome = worked built_in (joint_I_on flange 20 (face_I_rows 4 extended (neg_ℤ (pos 1000000)) levers)) in
+four_I flange extended tension levers =
+    let outcome = worked built_in (joint_I_on flange 20 (face_I_rows 4 extended (neg_ℤ (pos tension)) levers)) in
     outcome.refusal.number ∷ take 4 outcome.result.forces
 
 -- The plate is too thick for the bolts, and the flange isn't at 182 and is at 183: row 3 then gets no more than 274400 × 1400 ÷ 2400, which
--- leaves more to row 4, and that no more than 274400 × 900 ÷ 2400. With row 1 above the beam flange the triangle hangs from row 2.
+-- leaves more to row 4, and that no more than 274400 × 900 ÷ 2400. With less tension the cap leaves rows 3 and 4 less than that. With row 1
+-- above the beam flange the triangle hangs from row 2.
 checked_I_thick : Checked
 unfolding four_I
 checked_I_thick = record {
-  given = four_I 182 0 (2400 ∷ 1900 ∷ 1400 ∷ 900 ∷ []) ++ four_I 183 0 (2400 ∷ 1900 ∷ 1400 ∷ 900 ∷ [])
-      ++ four_I 183 1 (3393 ∷ 2893 ∷ 1900 ∷ 900 ∷ []);
+  given = four_I 182 0 1000000 (2400 ∷ 1900 ∷ 1400 ∷ 900 ∷ []) ++ four_I 183 0 1000000 (2400 ∷ 1900 ∷ 1400 ∷ 900 ∷ [])
+      ++ four_I 183 0 100000 (2400 ∷ 1900 ∷ 1400 ∷ 900 ∷ []) ++ four_I 183 1 1000000 (3393 ∷ 2893 ∷ 1900 ∷ 900 ∷ []);
   stated = (0 ∷ 274400 ∷ 189150 ∷ 184911 ∷ 97066 ∷ []) ++ (0 ∷ 274400 ∷ 190898 ∷ 160066 ∷ 102900 ∷ [])
-      ++ (0 ∷ 226748 ∷ 238550 ∷ 156669 ∷ 74211 ∷ []);
+      ++ (0 ∷ 274400 ∷ 190898 ∷ 60004 ∷ 0 ∷ []) ++ (0 ∷ 226748 ∷ 238550 ∷ 156669 ∷ 74211 ∷ []);
 }
 
 unfoldable pub table : List Checked

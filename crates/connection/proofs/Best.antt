@@ -5,7 +5,7 @@ use Rattle.std.specs.Prelude.{Option, Result, Ok, Err, IfOk}
 use mathlib.Core.Path.{◌≡◌, refl, sym, ap, subst, ◌∙◌}
 use mathlib.Core.Bool.{Bool}
 use Prim.Native.Nat.{ℕ}
-use mathlib.Core.List.{List, []}
+use mathlib.Core.List.{List}
 use lib.ListN.{length}
 use lib.Dec.{leb→le, le→leb}
 use lib.IntN.{pos}
@@ -22,8 +22,7 @@ use Rattle.sharing.specs.Sharing.{Competes}
 use Rattle.sharing.specs.Best.{Best}
 use Rattle.sharing.proofs.Theorems.{best}
 use Rattle.sharing.specs.Triangle.{limits_in, KeepsTriangle}
-use Rattle.sharing.proofs.Cap.{cap_is_a_limit}
-use Rattle.sharing.proofs.Triangle.{triangle_is_limits}
+use Rattle.sharing.proofs.Triangle.{all_are_limits}
 use Rattle.tension.specs.Admissible.{Admissible}
 use Rattle.governing.specs.Cap.{newtons_of}
 use Rattle.governing.proofs.Cases.{cap_newtons}
@@ -42,42 +41,38 @@ use Rattle.connection.proofs.Answers.{admissible, not_refused, in_range_of}
 module _ (panel_counts : Bool) (column : Column) (bolt : BoltStrengths) (face : Face) (a : Admissible column face)
     (eight : length face.levers ≡ row_counts.high)
     (cap : cap_of panel_counts column face ≡ pos (newtons_of (cap_of panel_counts column face))) where
-  n : ℕ
-  n = rows_of face
-
-  -- the limits with the cap among them
-  capped : Table
-  capped = with_cap (limit_of column bolt face) (rows_of face) (newtons_of (cap_of panel_counts column face))
-
-  -- and with the triangle's, where there is one
+  -- the limits, with the cap's and the triangle's
   limits : Table
-  limits = limits_in (triangle_on column bolt face) capped (rows_of face)
+  limits =
+      limits_in (triangle_on column bolt face)
+      (with_cap (limit_of column bolt face) (rows_of face) (newtons_of (cap_of panel_counts column face))) (rows_of face)
 
   -- the program's list is the forces
   own : programs_list face (result_of panel_counts column bolt face).forces ≡ forces_of panel_counts column bolt face
   unfolding result_of forces_of
   own = rows_kept (rows_of face) _
 
+  of_forces : (program : List ℕ) → forces_of panel_counts column bolt face ≡ program → Best limits (rows_of face) program
+  unfolding forces_of limits
+  of_forces program e = rw e at (best limits (rows_of face))
+
   -- a list competes with it exactly when it competes under these limits
   module _ (program : List ℕ) (e : forces_of panel_counts column bolt face ≡ program) (other : List ℕ) where
+    abbrev Kept : List ℕ → Type 0
+    Kept list = KeepsTriangle (triangle_on column bolt face) (rows_of face) list other
+
     under : CompetesFor panel_counts column bolt face program other → Competes limits (rows_of face) other
-    unfolding limits capped forces_of
+    unfolding limits forces_of
     under c =
         let kept = rw cap at c.capped in
-        let within = (cap_is_a_limit (limit_of column bolt face) (rows_of face) (newtons_of (cap_of panel_counts column face)) other).1
-        (c.limits, leb→le _ _ kept.le) in
-        (triangle_is_limits (triangle_on column bolt face) capped (rows_of face) other).1 (within, subst (λ p. KeepsTriangle (triangle_on column bolt face) (rows_of face) p other) (sym e) c.triangle)
+        (all_are_limits (triangle_on column bolt face) _ (rows_of face) _ other).1
+        (c.limits, leb→le _ _ kept.le, subst Kept (sym e) c.triangle)
 
     over : Competes limits (rows_of face) other → CompetesFor panel_counts column bolt face program other
-    unfolding limits capped forces_of
+    unfolding limits forces_of
     over c =
-        let both = (triangle_is_limits (triangle_on column bolt face) capped (rows_of face) other).0 c in
-        let within = (cap_is_a_limit (limit_of column bolt face) (rows_of face) (newtons_of (cap_of panel_counts column face)) other).0 both.0 in
-        record { limits = within.0; capped = rw cap (record { le = le→leb _ _ within.1 }); triangle = subst (λ p. KeepsTriangle (triangle_on column bolt face) (rows_of face) p other) e both.1 }
-
-    of_forces : Best limits (rows_of face) program
-    unfolding forces_of limits capped
-    of_forces = rw e at (best limits (rows_of face))
+        let all = (all_are_limits (triangle_on column bolt face) _ (rows_of face) _ other).0 c in
+        record { limits = all.0; capped = rw cap (record { le = le→leb _ _ all.1 }); triangle = subst Kept e all.2 }
 
   demand : let result = result_of panel_counts column bolt face in
       Demand3 panel_counts column bolt face result.forces result.verdicts.bending
@@ -85,7 +80,7 @@ module _ (panel_counts : Bool) (column : Column) (bolt : BoltStrengths) (face : 
   demand =
       let list = programs_list face (result_of panel_counts column bolt face).forces in
       let e : forces_of panel_counts column bolt face ≡ list = sym own in
-      let b = of_forces list e [] in
+      let b = of_forces list e in
       let falls = falling column face a eight in
       let fails = b.fails (levers_of face) falls (carries face.loads face.beam) (carries_monotone _ _) in
       let same : carries_of face list ≡ carries_of face (forces_of panel_counts column bolt face) = ap (carries_of face) own in

@@ -16,7 +16,7 @@ use Rattle.strength.specs.Thickness.{both_too_thick}
 use Rattle.strength.specs.declared.BoltStrengths.{BoltStrengths}
 use Rattle.tension.specs.Admissible.{Admissible}
 use Rattle.allocation.specs.Steps.{TriangleFits}
-use Rattle.connection.specs.OneFace.{rows_of, levers_of, steel_of, triangle_on}
+use Rattle.connection.specs.OneFace.{rows_of, levers_of, steel_of, face_triangle, triangle_on}
 
 module _ (column : Column) (face : Face) (a : Admissible column face) (eight : length face.levers ≡ row_counts.high) where
   enough : rows_of face ≤ length face.levers
@@ -39,7 +39,7 @@ module _ (column : Column) (face : Face) (a : Admissible column face) (eight : l
   unfolding triangle_on
   triangle_fits bolt = go (both_too_thick column face.plate (steel_of column face) bolt)
     where
-      go : (thick : Bool) → TriangleFits (cond thick (Some (record { levers = levers_of face; reference = face.extended })) None) (rows_of face)
+      go : (thick : Bool) → TriangleFits (cond thick (Some (face_triangle face)) None) (rows_of face)
       go true = record {
         rows = falling.rows;
         positive = λ inside. (lever face.extended inside).low;

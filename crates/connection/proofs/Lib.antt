@@ -1,5 +1,5 @@
--- The limits with the cap among them (`Forces`), what is known of the rows' levers (`Levers`), the verdicts from what is counted (`Judged`), what the refusals leave (`Answers`),
--- demand 3 (`Best`), and how large the sum of the forces is (`Sums`). They assume nothing.
+-- The limits with the cap among them (`Forces`), what is known of the rows' levers (`Levers`), the verdicts from what is counted
+-- (`Judged`), what the refusals leave (`Answers`), demand 3 (`Best`), and how large the sum of the forces is (`Sums`). They assume nothing.
 pub mod Forces
 pub mod Levers
 pub mod Answers

@@ -13,8 +13,7 @@ use Rattle.strength.specs.declared.BoltStrengths.{BoltStrengths}
 use Rattle.sharing.specs.Groups.{total, with_cap}
 use Rattle.sharing.proofs.Theorems.{best}
 use Rattle.sharing.specs.Triangle.{limits_in}
-use Rattle.sharing.proofs.Cap.{cap_is_a_limit}
-use Rattle.sharing.proofs.Triangle.{triangle_is_limits}
+use Rattle.sharing.proofs.Triangle.{all_are_limits}
 use Rattle.compression.specs.Compression.{resistances_of}
 use Rattle.compression.specs.InRange.{most_bearing}
 use Rattle.compression.proofs.Ranges.{bearing_le, parts_in_range}
@@ -34,10 +33,8 @@ module _ (panel_counts : Bool) (column : Column) (face : Face) where
       let limit = limit_of column bolt face in
       let cap = newtons_of (cap_of panel_counts column face) in
       let triangle = triangle_on column bolt face in
-      let capped = with_cap limit (rows_of face) cap in
-      let kept = (triangle_is_limits triangle capped (rows_of face) (forces_of panel_counts column bolt face)).0
-      (best (limits_in triangle capped (rows_of face)) (rows_of face)).competes in
-      ((cap_is_a_limit limit (rows_of face) cap (forces_of panel_counts column bolt face)).0 kept.0).1
+      ((all_are_limits triangle limit (rows_of face) cap (forces_of panel_counts column bolt face)).0
+      (best (limits_in triangle (with_cap limit (rows_of face) cap) (rows_of face)) (rows_of face)).competes).1
 
   force_le : ColumnInRange column → FaceInRange face → force_of (governing_of panel_counts column face) ≤ most_bearing
   unfolding governing_of

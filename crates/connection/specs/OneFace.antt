@@ -52,12 +52,15 @@ unfoldable pub cap_of : (panel_counts : Bool) → Column → Face → ℤ
 unfolding governing_of
 cap_of panel_counts column face = tension_cap face.loads (force_of (governing_of panel_counts column face))
 
--- rule 6.5: the triangle that the rows go by, where flange and plate are both too thick for the bolts; it hangs from the first row under the
--- beam flange
+-- rule 6.5: the triangle of a face's rows, which hangs from the first row under the beam flange
+abbrev pub face_triangle : Face → Triangle
+face_triangle face = record { levers = levers_of face; reference = face.extended }
+
+-- rule 6.5: the triangle that the rows go by, where flange and plate are both too thick for the bolts
 unfoldable pub triangle_on : Column → BoltStrengths → Face → Option Triangle
 triangle_on column bolt face =
     cond (both_too_thick column face.plate (steel_of column face) bolt)
-    (Some (record { levers = levers_of face; reference = face.extended }))
+    (Some (face_triangle face))
     None
 
 -- rules 6.3 and 6.5: the forces under the limits of the groups, the cap and the triangle's limits

@@ -6,7 +6,8 @@ use Prim.Native.Nat.{ℕ, zero, suc, ◌+◌, ◌-◌, ◌≤◌, ◌<◌, min}
 use native.Mathlib.Nat.{le_refl, le_step}
 use native.Mathlib.Omega.{arith}
 use mathlib.Core.List.{List, [], ◌∷◌, ◌++◌}
-use lib.ListN.{length, take, drop}
+use lib.ListN.{length, take, drop, get_or}
+use lib.Seq.{get_or-take}
 use Rattle.sharing.specs.Groups.{Table, total}
 use Rattle.sharing.specs.Sharing.{least_up_to, lowered, next_force, forces_down_to, shared}
 use Rattle.sharing.proofs.Sums.{length_forces, take_shared}
@@ -41,6 +42,14 @@ module _ (limit other : Table) (n : ℕ) where
 
     pub rows_agree : take k (shared limit n) ≡ take k (shared other n)
     rows_agree = take_shared limit n k ∙ forces_agree (min k n) (omega arith) (omega arith) ∙ sym (take_shared other n k)
+
+  -- the force of row k
+  pub force_agrees : (k : ℕ) → ((i j : ℕ) → i < suc k → i ≤ j → j < n → limit i j ≡ other i j)
+      → get_or (shared limit n) k 0 ≡ get_or (shared other n) k 0
+  force_agrees k same =
+      sym (get_or-take (suc k) (shared limit n) k 0 (omega arith))
+      ∙ ap (λ xs. get_or xs k 0) (rows_agree (suc k) same)
+      ∙ get_or-take (suc k) (shared other n) k 0 (omega arith)
 
   pub shared_agrees : ((i j : ℕ) → i ≤ j → j < n → limit i j ≡ other i j) → shared limit n ≡ shared other n
   unfolding shared

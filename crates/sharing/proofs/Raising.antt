@@ -11,7 +11,6 @@ use native.Mathlib.Decide.{dec_le}
 use native.Mathlib.Omega.{arith}
 use mathlib.Core.List.{List}
 use lib.ListN.{take, get_or}
-use lib.Seq.{get_or-take}
 use lib.Dec.{eqb, ltb}
 use borrow.Author.Tests.{eqb-true}
 use Rattle.sharing.specs.Groups.{Table, total}
@@ -22,7 +21,7 @@ use Rattle.sharing.proofs.Least.{least_le, le_least}
 use Rattle.sharing.proofs.Sums.{sum_down_to, sum_shared, sum_inside, sum_le, sums_within}
 use Rattle.sharing.proofs.Moments.{falling_from, moment-within}
 use Rattle.sharing.proofs.Theorems.{shared_competes, sum_le_shared, moment_le_shared}
-use Rattle.sharing.proofs.Agreement.{lowered_agrees, rows_agree}
+use Rattle.sharing.proofs.Agreement.{lowered_agrees, rows_agree, force_agrees}
 
 -- A table after the limit of a group went up by the raise, or by less; the group is one of those that begin at the raise's first row.
 record RaisedBy (raise : Raise) (limit after : Table) : Type 0 where
@@ -108,11 +107,7 @@ moves_within raise limit n = moved_within raise limit (raised raise limit) (by_r
 module _ (raise : Raise) (t : Triangle) (limit : Table) (n : ℕ) (below : t.reference < raise.first) where
   force_stays : reference_force t (raised raise limit) n ≡ reference_force t limit n
   force_stays =
-      let rows = rows_agree (raised raise limit) limit n (suc t.reference)
-      (λ i j early h inside. (by_raised raise limit).elsewhere i j (λ e. omega arith)) in
-      sym (get_or-take (suc t.reference) (shared (raised raise limit) n) t.reference 0 (omega arith))
-      ∙ ap (λ xs. get_or xs t.reference 0) rows
-      ∙ get_or-take (suc t.reference) (shared limit n) t.reference 0 (omega arith)
+      force_agrees (raised raise limit) limit n t.reference (λ i j early h inside. (by_raised raise limit).elsewhere i j (λ e. omega arith))
 
   added_raised : (force : ℕ) → RaisedBy raise (with_added t force limit) (with_added t force (raised raise limit))
   unfolding with_added

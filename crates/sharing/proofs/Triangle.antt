@@ -10,15 +10,15 @@ use native.Mathlib.Nat.{le_refl, le_trans, min-le_left, le-min}
 use native.Mathlib.Omega.{arith}
 use mathlib.Core.List.{List, [], ◌∷◌}
 use lib.ListN.{get_or, take}
-use lib.Seq.{get_or-take}
 use lib.Dec.{eqb, ltb}
 use borrow.Author.Tests.{eq-eqb, eqb-true, lt-ltb, ltb-true}
-use Rattle.sharing.specs.Groups.{Table, total, group_sum}
+use Rattle.sharing.specs.Groups.{Table, total, group_sum, with_cap}
 use Rattle.sharing.specs.Sharing.{shared, Competes}
 use Rattle.sharing.specs.Triangle.{Triangle, added_limit, with_added, reference_force, limits_in, KeepsAdded, KeepsTriangle}
 use Rattle.sharing.specs.Triangle.{ReferenceStays, NoneBelowReference}
 use Rattle.sharing.proofs.Totals.{above_and_group}
-use Rattle.sharing.proofs.Agreement.{rows_agree, shared_agrees}
+use Rattle.sharing.proofs.Cap.{cap_is_a_limit}
+use Rattle.sharing.proofs.Agreement.{rows_agree, force_agrees, shared_agrees}
 
 pub next_sum : (xs : List ℕ) (row : ℕ) → total (take (suc row) xs) ≡ total (take row xs) + get_or xs row 0
 next_sum [] zero = refl
@@ -62,9 +62,7 @@ reference_stays t force limit n k above =
 pub reference_force_stays : (t : Triangle) (force : ℕ) (limit : Table) (n : ℕ)
     → get_or (shared (with_added t force limit) n) t.reference 0 ≡ reference_force t limit n
 reference_force_stays t force limit n =
-    sym (get_or-take (suc t.reference) (shared (with_added t force limit) n) t.reference 0 (omega arith))
-    ∙ ap (λ xs. get_or xs t.reference 0) (reference_stays t force limit n (suc t.reference) (omega arith))
-    ∙ get_or-take (suc t.reference) (shared limit n) t.reference 0 (omega arith)
+    force_agrees (with_added t force limit) limit n t.reference (λ i j early h inside. added_elsewhere t force limit i j (λ below same. omega arith))
 
 -- keeping the added limits is keeping them as limits of groups
 module _ (t : Triangle) (force : ℕ) (limit : Table) (n : ℕ) (forces : List ℕ) where
@@ -99,6 +97,18 @@ pub triangle_is_limits : (triangle : Option Triangle) (limit : Table) (n : ℕ) 
     ↔ (Competes limit n forces × KeepsTriangle triangle n (shared (limits_in triangle limit n) n) forces)
 triangle_is_limits None limit n forces = ((λ c. (c, tt)), (λ both. both.0))
 triangle_is_limits (Some t) limit n forces = rw (reference_force_stays t _ limit n) (added_are_limits t _ limit n forces)
+
+-- with the cap among the limits (rule 6.3), what competes keeps all three
+pub all_are_limits : (triangle : Option Triangle) (limit : Table) (n cap : ℕ) (forces : List ℕ)
+    → Competes (limits_in triangle (with_cap limit n cap) n) n forces
+    ↔ (Competes limit n forces × (total forces ≤ cap)
+    × KeepsTriangle triangle n (shared (limits_in triangle (with_cap limit n cap) n) n) forces)
+all_are_limits triangle limit n cap forces =
+    let hung = triangle_is_limits triangle (with_cap limit n cap) n forces in
+    let capped = cap_is_a_limit limit n cap forces in (
+      (λ c. let within = capped.0 (hung.0 c).0 in (within.0, within.1, (hung.0 c).1)),
+      (λ c. hung.1 (capped.1 (c.0, c.1), c.2)),
+    )
 
 -- tables that agree share alike in a triangle too
 pub shared_in_agrees : (triangle : Option Triangle) (limit other : Table) (n : ℕ)

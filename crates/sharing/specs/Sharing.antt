@@ -39,7 +39,7 @@ shared limit n = forces_down_to limit n n
 
 -- Rule 7.1 for any table of limits: a list competes when it has one force for each row, and for every group a sum of at most its limit,
 -- before any lowering. The cap and the triangle's limits are no separate clauses here, since a table may have them among its
--- limits (`with_cap`, `with_triangle`); rule 7.1 whole is `CompetesFor` of the crate `connection`.
+-- limits (`with_cap`, `limits_in`); rule 7.1 whole is `CompetesFor` of the crate `connection`.
 pub record Competes (limit : Table) (n : ℕ) (forces : List ℕ) : Type 0 where
   pub rows : length forces ≡ n
   pub keeps : (i j : ℕ) → i ≤ j → j < n → group_sum forces i j ≤ limit i j

@@ -30,5 +30,5 @@ returns c =
     let share = rw c.triangle.ensures at c.share.ensures in
     record {
       value = share ∙ ap eight_places (forces_agree _ c.args.cap _ _ _ table rows.low rows.high _ lower triangle);
-      by_index = (λ k. rw share (force_le_most _ _ shares _ (rows_lowered _ _ triangle) k));
+      by_index = (λ k. rw share (force_le_most shares (rows_lowered triangle) k));
     }

@@ -1,8 +1,8 @@
 -- `triangle` meets its contract: the test is the definition's, of the face's own strengths. Assumes nothing.
-use Rattle.std.proofs.Common.{sym, ap, ◌∙◌, ◌≡◌, Some, None, cond}
+use Rattle.std.proofs.Common.{sym, ap, ◌∙◌, ◌≡◌, Some, None, cond, Bool, true, false}
 use Rattle.strength.specs.Thickness.{both_too_thick}
 use Rattle.strength.proofs.Ranges.{steel_in_range}
-use Rattle.connection.specs.OneFace.{levers_of, steel_of, triangle_on}
+use Rattle.connection.specs.OneFace.{steel_of, face_triangle, triangle_on}
 use Rattle.connection.proofs.FaceAtWork.triangle.Goals as goal
 use Rattle.connection.proofs.FaceAtWork.triangle.Goals.{After-both_too_thick}
 
@@ -19,16 +19,15 @@ thick c =
     let s = c.args.self.now in
     c.both_too_thick.ensures ∙ ap (λ steel. both_too_thick s.column.now s.face.now.plate steel s.bolt) s.at_work.strengths
 
-pub returns-then-not-both_too_thick : goal.returns-then-not-both_too_thick
+-- the face's triangle where the test says so
+by_test : (c : After-both_too_thick) (test : Bool) → c.both_too_thick.result ≡ test
+    → let s = c.args.self.now in
+    cond test (Some (face_triangle s.face.now)) None ≡ triangle_on s.column.now s.bolt s.face.now
 unfolding triangle_on
-returns-then-not-both_too_thick c =
-    let here = (goal.at.returns-then-not-both_too_thick c).After-both_too_thick in
-    let face = c.args.self.now.face.now in
-    sym (ap (λ t. cond t (Some (record { levers = levers_of face; reference = face.extended })) None) (sym (thick here) ∙ c.if-not-both_too_thick.true))
+by_test c test told = sym (ap (λ t. cond t (Some (face_triangle c.args.self.now.face.now)) None) (sym (thick c) ∙ told))
+
+pub returns-then-not-both_too_thick : goal.returns-then-not-both_too_thick
+returns-then-not-both_too_thick c = by_test (goal.at.returns-then-not-both_too_thick c).After-both_too_thick false c.if-not-both_too_thick.true
 
 pub returns : goal.returns
-unfolding triangle_on
-returns c =
-    let here = (goal.at.returns c).After-both_too_thick in
-    let face = c.args.self.now.face.now in
-    sym (ap (λ t. cond t (Some (record { levers = levers_of face; reference = face.extended })) None) (sym (thick here) ∙ c.if-not-both_too_thick.false))
+returns c = by_test (goal.at.returns c).After-both_too_thick true c.if-not-both_too_thick.false
