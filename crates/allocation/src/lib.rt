@@ -60,7 +60,7 @@ fn none_above_most(limits: &[u64]) -> bool
     limits.iter().all(|limit| *limit <= MOST)
 }
 
-// P207's triangle: each row below the reference row gets no more than that row's force, by the ratio of their levers.
+// P207's triangle: each row below the reference row gets no more than the reference row's force, by the ratio of their levers.
 #[derive(Clone, Copy)]
 pub struct LentTriangle<'a> {
     // one for each row

@@ -56,19 +56,19 @@ module _ (panel_counts : Bool) (column : Column) (bolt : BoltStrengths) (face : 
   unfolding forces_of limits
   of_forces program e = rw e at (best limits (rows_of face))
 
-  -- a list competes with it exactly when it competes under these limits
-  module _ (program : List ℕ) (e : forces_of panel_counts column bolt face ≡ program) (other : List ℕ) where
+  -- a list competes with an answer that has them exactly when it competes under these limits
+  module _ (places : List ℕ) (e : forces_of panel_counts column bolt face ≡ programs_list face places) (other : List ℕ) where
     abbrev Kept : List ℕ → Type 0
     Kept list = KeepsTriangle (triangle_on column bolt face) (rows_of face) list other
 
-    under : CompetesFor panel_counts column bolt face program other → Competes limits (rows_of face) other
+    under : CompetesFor panel_counts column bolt face places other → Competes limits (rows_of face) other
     unfolding limits forces_of
     under c =
         let kept = rw cap at c.capped in
         (all_are_limits (triangle_on column bolt face) _ (rows_of face) _ other).1
         (c.limits, leb→le _ _ kept.le, subst Kept (sym e) c.triangle)
 
-    over : Competes limits (rows_of face) other → CompetesFor panel_counts column bolt face program other
+    over : Competes limits (rows_of face) other → CompetesFor panel_counts column bolt face places other
     unfolding limits forces_of
     over c =
         let all = (all_are_limits (triangle_on column bolt face) _ (rows_of face) _ other).0 c in
@@ -78,19 +78,20 @@ module _ (panel_counts : Bool) (column : Column) (bolt : BoltStrengths) (face : 
       Demand3 panel_counts column bolt face result.forces result.verdicts.bending
   unfolding result_of
   demand =
-      let list = programs_list face (result_of panel_counts column bolt face).forces in
+      let places = (result_of panel_counts column bolt face).forces in
+      let list = programs_list face places in
       let e : forces_of panel_counts column bolt face ≡ list = sym own in
       let b = of_forces list e in
       let falls = falling column face a eight in
       let fails = b.fails (levers_of face) falls (carries face.loads face.beam) (carries_monotone _ _) in
       let same : carries_of face list ≡ carries_of face (forces_of panel_counts column bolt face) = ap (carries_of face) own in
       record {
-        competes = over list e _ b.competes;
-        sums = λ other c. b.sums other (under list e other c);
-        same = λ other c. b.same (levers_of face) falls other (under list e other c);
+        competes = over places e _ b.competes;
+        sums = λ other c. b.sums other (under places e other c);
+        same = λ other c. b.same (levers_of face) falls other (under places e other c);
         fails_in_bending = (
-          (λ fail other c. fails.0 (same ∙ fail) other (under list e other c)),
-          (λ all. sym same ∙ fails.1 (λ other c. all other (over list e other c))),
+          (λ fail other c. fails.0 (same ∙ fail) other (under places e other c)),
+          (λ all. sym same ∙ fails.1 (λ other c. all other (over places e other c))),
         );
       }
 
