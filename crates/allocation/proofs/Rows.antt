@@ -1,6 +1,7 @@
 -- Sharing row by row. When the groups of every row down to k are counted, the sum down to row k is the shared one: it is at most
--- what each group allows, and nothing larger is. So the next row's force is that sum less what the rows above have got.
--- Assumes nothing.
+-- what each group allows, and nothing larger is. So the next row's force is that sum less what the rows above have got. The list's limits
+-- are counted; the table that is shared may have lower ones on single rows, as a triangle adds them, and then a row's sum is held to its own
+-- as well. Assumes nothing.
 use mathlib.Core.Path.{◌≡◌, refl, sym, ap, ap₂, ◌∙◌}
 use mathlib.Core.Logic.{⊎_elim}
 use Prim.Native.Nat.{ℕ, zero, suc, ◌+◌, ◌-◌, ◌≤◌, ◌<◌, min}

@@ -1,5 +1,5 @@
 -- The limits of a joint's groups with the cap stored on group 1 to n: they agree with the limits that the cap has joined, so they
--- share alike. Group 1 to n has the n-th place, and no other group has it. Assumes nothing.
+-- share alike, in a triangle or without. Group 1 to n has the n-th place, and no other group has it. Assumes nothing.
 use Rattle.std.specs.Prelude.{Option}
 use mathlib.Core.Path.{◌≡◌, refl, sym, ap, ap₂, ◌∙◌}
 use mathlib.Core.Bool.{Bool, true, false, cond, ◌&&◌}
