@@ -1,5 +1,5 @@
--- Sharing in a triangle or without: the limits that are shared are the list's, of which the triangle lowers those of single rows, and the
--- most that it leaves a row is worked from forces of which the reference row's is final. Assumes nothing.
+-- Sharing in a triangle or without: the limits that are shared are the list's, of which the triangle lowers those of single rows, and what
+-- it adds on a row is worked from forces of which the reference row's is final. Assumes nothing.
 use Rattle.std.specs.Prelude.{Option, Some, None, unwrap_or, IfSome}
 use Rattle.std.proofs.Math.ListN.{get_or-append}
 use mathlib.Core.Path.{◌≡◌, refl, sym, ap, ◌∙◌}
@@ -44,7 +44,7 @@ module _ {n : ℕ} {limits : List ℕ} where
     by_the_list : listed n limits row row ≡ min (listed n limits row row) most_limit
     by_the_list = omega (arith, limit_le_most n limits s row row (le_refl row) inside)
 
-    -- the limit of the row alone is its limit in the list, or the most that the triangle leaves it
+    -- the limit of the row alone is its limit in the list, or the lesser one that the triangle adds
     pub single_limit : (triangle : Option Triangle) {forces sums : List ℕ} {above : ℕ} {rest : List ℕ}
         → SharedDownTo n limits (limits_in triangle (listed n limits) n) forces sums above rest row
         → limits_in triangle (listed n limits) n row row ≡ min (listed n limits row row) (unwrap_or (added_on triangle forces row) most_limit)
@@ -61,9 +61,9 @@ module _ {n : ℕ} {limits : List ℕ} where
             (sym (force_in_place d t.reference below ∙ reference_force_stays t _ _ n))
         go false e = added_elsewhere t _ _ row row (λ below same. absurd (omega (arith, ltb-false _ _ e))) ∙ by_the_list
 
--- What the triangle leaves a row is no larger than a product that can be held.
+-- An added limit is no larger than a product that can be held.
 pub added_small : (triangle : Option Triangle) (forces : List ℕ) (row : ℕ) → AddedAsked triangle forces row
-    → IfSome (added_on triangle forces row) (λ most. most ≤ most_limit * most_lever)
+    → IfSome (added_on triangle forces row) (λ added. added ≤ most_limit * most_lever)
 added_small None forces row asked = tt
 added_small (Some t) forces row asked = go (ltb t.reference row)
   where
@@ -71,6 +71,6 @@ added_small (Some t) forces row asked = go (ltb t.reference row)
     product = mul-le-mul (asked.bounded t.reference) (asked.fits.high row asked.inside)
 
     go : (below : Bool)
-        → IfSome (cond below (Some (added_limit t (get_or forces t.reference 0) row)) None) (λ most. most ≤ most_limit * most_lever)
+        → IfSome (cond below (Some (added_limit t (get_or forces t.reference 0) row)) None) (λ added. added ≤ most_limit * most_lever)
     go true = le_trans (div-le_self _ _) product
     go false = tt

@@ -68,8 +68,9 @@ pub struct LentTriangle<'a> {
     pub reference: usize,
 }
 
-// The sharing itself, in a triangle or without. Open for Work, which has shown that there is a limit for each group and none too large. By
-// index: what the triangle adds on a row is asked of the forces above it. Inlined, so that Allocate has the loop without a triangle.
+// The sharing itself, in a triangle or without. Open for Work, which has shown that there is a limit for each group and none too large, and
+// of a triangle a lever for each row, of which the reference row's isn't 0. By index: what the triangle adds on a row is asked of the forces
+// above it. Inlined, so that Allocate has the loop without a triangle.
 #[inline(always)]
 pub fn share(count: usize, limits: &[u64], triangle: Option<LentTriangle>) -> [u64; 8]
     requires { Shareable count limits.now × TriangleFits (triangle_of triangle) count }

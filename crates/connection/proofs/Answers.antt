@@ -7,9 +7,9 @@ use native.Mathlib.Omega.{arith}
 use lib.ListN.{length}
 use lib.Dec.{ltb}
 use borrow.Author.Tests.{ltb-false, eq-eqb}
-use Rattle.std.specs.Prelude.{List, not, Option, Some, None, Result, Ok, Err, ⊤}
+use Rattle.std.specs.Prelude.{List, [], ◌∷◌, not, Option, Some, None, Result, Ok, Err, ⊤}
 use Rattle.arithmetic.specs.Checks.{Check, first_failing, checks_before, checks_from}
-use Rattle.arithmetic.proofs.Checks.{numbered, positive, numbered_holds, one_after_another, cut_at, holds, fails, none_left}
+use Rattle.arithmetic.proofs.Checks.{numbered, positive, numbered_holds, one_after_another, cut_at, holds, fails, none_left, of_each}
 use Rattle.joint.specs.Ranges.{row_counts}
 use Rattle.joint.specs.Fields.{FieldCheck, field_check}
 use Rattle.joint.specs.InRange.{ColumnInRange, FaceInRange, InRange}
@@ -129,3 +129,26 @@ module _ (panel_counts : Bool) (column : Column) (bolt : BoltStrengths) (face : 
     passes_15 e cap some =
         let within = within_cap _ _ cap some in
         (sym (holds passed refused_after_10 15 _ _ (ap not within.0) ∙ none_left _ _) ∙ by_15 e, within.1)
+
+-- 14 is told of no face, whatever its fields are: of the numbers in the list none is 14.
+none_is_fourteen : (a b c d e : Bool)
+    → first_failing 0 (λ number. number) ((11, a) ∷ (19, b) ∷ (12, c) ∷ (13, d) ∷ (15, e) ∷ []) ≡ 14 → ⊥
+unfolding first_failing
+none_is_fourteen false b c d e told = omega (arith, told)
+none_is_fourteen true false c d e told = omega (arith, told)
+none_is_fourteen true true false d e told = omega (arith, told)
+none_is_fourteen true true true false e told = omega (arith, told)
+none_is_fourteen true true true true false told = omega (arith, told)
+none_is_fourteen true true true true true told = omega (arith, told)
+
+pub never_fourteen : (panel_counts : Bool) (column : Column) (bolts : Bolts) (area : Option ℕ) (face : Face)
+    → (worked_connection panel_counts column bolts area face).number ≡ 14 → ⊥
+unfolding worked_connection worked_face refusals_after_10
+never_fourteen panel_counts column bolts area face = by_fields (field_check column bolts area face)
+  where
+    by_fields : (found : FieldCheck) → (worked_by found (worked_face panel_counts column (bolt_of bolts area) face)).number ≡ 14 → ⊥
+    by_fields (Ok passed) told =
+        let checks = refusals_after_10 panel_counts column (bolt_of bolts area) face in
+        let number = of_each (λ (a : FaceOutcome). a.number) (completed (result_of panel_counts column (bolt_of bolts area) face)) refused_after_10 checks in
+        none_is_fourteen _ _ _ _ _ (sym number ∙ told)
+    by_fields (Err found) told = omega (arith, told)

@@ -1,5 +1,6 @@
--- Demand 3 of the definition: a face that isn't refused has it. Its forces are shared under the limits with the cap among them, so they
--- are the best of the lists that keep both (the theorems of `sharing`), and a larger moment carries what a smaller one does.
+-- Demand 3 of the definition: a face that isn't refused has it. Its forces are shared under the limits with the cap and the triangle's among
+-- them, so they are the best of the lists that keep all of these (the theorems of `sharing`), and a larger moment carries what a smaller one
+-- does.
 -- Assumes nothing.
 use Rattle.std.specs.Prelude.{Option, Result, Ok, Err, IfOk}
 use mathlib.Core.Path.{◌≡◌, refl, sym, ap, subst, ◌∙◌}

@@ -1,4 +1,4 @@
--- Demand 3: the row forces of a face are the best that its limits and its cap allow. Assumes nothing.
+-- Demand 3: the row forces of a face are the best that its limits, its cap and its triangle allow. Assumes nothing.
 use Rattle.std.specs.Prelude.{◌≡◌, ◌↔◌, Bool, false, ℕ, ◌≤◌, List, take, pos, ◌≤ℤ◌, Option}
 use Rattle.joint.specs.declared.Bolts.{Bolts}
 use Rattle.joint.specs.declared.Column.{Column}

@@ -12,7 +12,8 @@ use Rattle.sharing.specs.Groups.{Table, total, group_sum}
 use Rattle.sharing.specs.Sharing.{shared, Competes}
 use Rattle.sharing.specs.Triangle.{Triangle, with_added, reference_force, limits_in, KeepsAdded, KeepsTriangle}
 use Rattle.sharing.proofs.Theorems.{shared_competes, sum_le_shared, largest_is_shared}
-use Rattle.sharing.proofs.Triangle.{next_sum, added_are_limits}
+use Rattle.sharing.proofs.Totals.{next_sum}
+use Rattle.sharing.proofs.Triangle.{added_are_limits}
 
 -- the first k forces of a list, and nothing for its other rows
 only : ℕ → List ℕ → List ℕ

@@ -1,13 +1,13 @@
--- Sums of lists: of two lists joined, of a list cut in two, from the top past the last row, of rows i to j.
--- The last puts the sum of a group as the difference of two sums from the top, by which every later argument goes.
+-- Sums of lists: of two lists joined, of a list cut in two, from the top past the last row, of rows i to j, of one row.
+-- That of rows i to j is the difference of two sums from the top, by which every later argument goes.
 -- Assumes nothing.
 use mathlib.Core.Path.{◌≡◌, refl, sym, ap, ap₂, ◌∙◌}
-use Prim.Native.Nat.{ℕ, suc, ◌+◌, ◌-◌, ◌≤◌, min}
-use native.Mathlib.Nat.{add_assoc, zero-add, add-zero, le-add_right}
+use Prim.Native.Nat.{ℕ, zero, suc, ◌+◌, ◌-◌, ◌≤◌, min}
+use native.Mathlib.Nat.{le_refl, add_assoc, zero-add, add-zero, le-add_right}
 use native.Mathlib.Decide.{dec_le}
 use native.Mathlib.Omega.{arith}
 use mathlib.Core.List.{List, [], ◌∷◌, ◌++◌}
-use lib.ListN.{length, take, drop, take-append-drop}
+use lib.ListN.{length, get_or, take, drop, take-append-drop}
 use lib.Seq.{take-add, take_all}
 use Rattle.sharing.specs.Groups.{total, group_sum}
 
@@ -47,3 +47,13 @@ unfolding group_sum
 above_and_group xs i j h =
     let rows : i + (suc j - i) ≡ suc j = omega arith in
     sym (total-append (take i xs) _) ∙ ap total (sym (take-add i (suc j - i) xs) ∙ ap (λ k. take k xs) rows)
+
+-- the next sum from the top is more by the next number, which is the group of its row alone
+pub next_sum : (xs : List ℕ) (row : ℕ) → total (take (suc row) xs) ≡ total (take row xs) + get_or xs row 0
+next_sum [] zero = refl
+next_sum [] (suc row) = refl
+next_sum (x ∷ xs) zero = omega arith
+next_sum (x ∷ xs) (suc row) = omega (arith, next_sum xs row)
+
+pub one_row : (xs : List ℕ) (row : ℕ) → group_sum xs row row ≡ get_or xs row 0
+one_row xs row = omega (arith, above_and_group xs row row (le_refl row), next_sum xs row)

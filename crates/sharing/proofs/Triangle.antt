@@ -5,30 +5,20 @@ use Rattle.std.specs.Prelude.{Option, None, Some}
 use mathlib.Core.Path.{◌≡◌, refl, sym, ap, ap₂, ◌∙◌}
 use mathlib.Core.Logic.{◌↔◌}
 use mathlib.Core.Bool.{Bool, true, false, cond, ◌&&◌}
-use Prim.Native.Nat.{ℕ, zero, suc, ◌+◌, ◌≤◌, ◌<◌, min}
+use Prim.Native.Nat.{ℕ, ◌≤◌, ◌<◌, min}
 use native.Mathlib.Nat.{le_refl, le_trans, min-le_left, le-min}
 use native.Mathlib.Omega.{arith}
-use mathlib.Core.List.{List, [], ◌∷◌}
-use lib.ListN.{get_or, take}
+use mathlib.Core.List.{List}
+use lib.ListN.{get_or}
 use lib.Dec.{eqb, ltb}
 use borrow.Author.Tests.{eq-eqb, eqb-true, lt-ltb, ltb-true}
 use Rattle.sharing.specs.Groups.{Table, total, group_sum, with_cap}
 use Rattle.sharing.specs.Sharing.{shared, Competes}
 use Rattle.sharing.specs.Triangle.{Triangle, added_limit, with_added, reference_force, limits_in, KeepsAdded, KeepsTriangle}
 use Rattle.sharing.specs.Triangle.{ReferenceStays, NoneBelowReference}
-use Rattle.sharing.proofs.Totals.{above_and_group}
+use Rattle.sharing.proofs.Totals.{one_row}
 use Rattle.sharing.proofs.Cap.{cap_is_a_limit}
 use Rattle.sharing.proofs.Agreement.{rows_agree, force_agrees, shared_agrees}
-
-pub next_sum : (xs : List ℕ) (row : ℕ) → total (take (suc row) xs) ≡ total (take row xs) + get_or xs row 0
-next_sum [] zero = refl
-next_sum [] (suc row) = refl
-next_sum (x ∷ xs) zero = omega arith
-next_sum (x ∷ xs) (suc row) = omega (arith, next_sum xs row)
-
--- the group of one row
-one_row : (xs : List ℕ) (row : ℕ) → group_sum xs row row ≡ get_or xs row 0
-one_row xs row = omega (arith, above_and_group xs row row (le_refl row), next_sum xs row)
 
 module _ (t : Triangle) (force : ℕ) (limit : Table) where
   -- a longer group, or a row that isn't below the reference
@@ -92,7 +82,7 @@ module _ (t : Triangle) (force : ℕ) (limit : Table) (n : ℕ) (forces : List �
 
 -- A list competes under the limits in a triangle, or without, exactly when it competes under the limits and keeps those that are added,
 -- worked from the shared list.
-pub triangle_is_limits : (triangle : Option Triangle) (limit : Table) (n : ℕ) (forces : List ℕ)
+triangle_is_limits : (triangle : Option Triangle) (limit : Table) (n : ℕ) (forces : List ℕ)
     → Competes (limits_in triangle limit n) n forces
     ↔ (Competes limit n forces × KeepsTriangle triangle n (shared (limits_in triangle limit n) n) forces)
 triangle_is_limits None limit n forces = ((λ c. (c, tt)), (λ both. both.0))

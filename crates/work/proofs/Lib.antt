@@ -1,2 +1,3 @@
--- The cases of Work's definition. They assume nothing.
+-- The cases of Work's definition (`Cases`), and that it tells no joint by 14 (`Refusals`). They assume nothing.
 pub mod Cases
+pub mod Refusals

@@ -85,7 +85,8 @@ fn work_face(
     let cap = u64::try_from(governing_force as i64 - i64::from(face.loads.axial))
         .map_err(|_| Trouble::Compression)?;
 
-    let forces = row_forces(column, &bolt, face, &steel, &distances, cap);
+    let limits = capped_limits(column, &bolt, face, &steel, &distances, cap);
+    let forces = row_forces(column, &bolt, face, &steel, &limits);
     let moment = moment_of(&forces, &face.levers);
     Ok(FaceResult {
         forces,
@@ -106,15 +107,13 @@ fn row_forces(
     bolt: &BoltStrengths,
     face: &Face,
     steel: &SteelStrengths,
-    distances: &Distances,
-    cap: u64,
+    limits: &[u64; GROUPS],
 ) -> [u64; ROWS] {
     let rows = face.row_count();
-    let limits = capped_limits(column, bolt, face, steel, distances, cap);
     if both_too_thick(column, &face.plate, steel, bolt) {
-        share_in_triangle(rows, &limits, face.row_under_flange(), &face.levers)
+        share_in_triangle(rows, limits, face.row_under_flange(), &face.levers)
     } else {
-        share(rows, &limits)
+        share(rows, limits)
     }
 }
 
