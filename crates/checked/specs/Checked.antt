@@ -357,11 +357,54 @@ checked_I_thick = record {
       ++ (0 ∷ 274400 ∷ 190898 ∷ 60004 ∷ 0 ∷ []) ++ (0 ∷ 226748 ∷ 238550 ∷ 156669 ∷ 74211 ∷ []);
 }
 
+-- I with no rows: its face by field 1, extended or not, with a first lever
+no_rows_I : (count extended lever : ℕ) → Face
+unfolding face_I_rows
+no_rows_I count extended lever = face_I_rows count extended (pos 0) (lever ∷ 0 ∷ 0 ∷ 0 ∷ [])
+
+-- on both faces of its column
+no_rows_on_both : Joint
+unfolding no_rows_I column_I
+no_rows_on_both = record {
+  column = column_I 132;
+  bolts = record { class = 88; diameter = 20 };
+  face = no_rows_I 16 0 0;
+  other = no_rows_I 0 0 0;
+}
+
+-- what the sheet program prints, in ASCII: `1 0 0 0 407706 K F P P P`, whatever letters follow, and a line feed
+line_no_rows : (letters : List ℕ) → List ℕ
+line_no_rows letters =
+    49 ∷ 32 ∷ 48 ∷ 32 ∷ 48 ∷ 32 ∷ 48 ∷ 32 ∷ 52 ∷ 48 ∷ 55 ∷ 55 ∷ 48 ∷ 54 ∷ 32 ∷ 75 ∷ 32 ∷ 70 ∷ 32 ∷ 80 ∷ 32 ∷ 80 ∷ 32 ∷ 80
+    ∷ letters ++ (10 ∷ [])
+
+-- its line of one face, and of both
+checked_I_no_rows : Checked
+unfolding no_rows_I no_rows_on_both joint_I_on line_no_rows
+checked_I_no_rows = record {
+  given = sheet_of (file New (joint_I_on 132 20 (no_rows_I 0 0 0))) ++ sheet_of (file New no_rows_on_both);
+  stated = line_no_rows [] ++ line_no_rows (32 ∷ 80 ∷ []) ++ line_no_rows (32 ∷ 80 ∷ []);
+}
+
+-- the refusal and the field: extended, with a lever, with both
+refused_no_rows : (extended lever : ℕ) → List ℕ
+unfolding no_rows_I joint_I_on
+refused_no_rows extended lever =
+    let refusal = (worked built_in (joint_I_on 132 20 (no_rows_I 0 extended lever))).refusal in refusal.number ∷ refusal.field ∷ []
+
+-- and what Allocate answers for no rows, handed no limit and one that is too large
+checked_no_rows_refused : Checked
+unfolding refused_no_rows allocate_answer
+checked_no_rows_refused = record {
+  given = refused_no_rows 1 0 ++ refused_no_rows 0 1 ++ refused_no_rows 1 1 ++ allocate_answer 0 [] ++ allocate_answer 0 (4000000001 ∷ []);
+  stated = (10 ∷ 2 ∷ []) ++ (10 ∷ 31 ∷ []) ++ (10 ∷ 2 ∷ []) ++ replicate 9 0 ++ replicate 9 0;
+}
+
 unfoldable pub table : List Checked
 unfolding checked_A checked_B checked_C checked_A_raised checked_C_raised checked_D checked_E checked_F checked_G checked_H
     checked_I checked_I_pushed checked_I_file checked_I_both checked_I_panel checked_loading checked_I_own checked_I_apart
-    checked_I_thick
+    checked_I_thick checked_I_no_rows checked_no_rows_refused
 table =
     checked_A ∷ checked_B ∷ checked_C ∷ checked_A_raised ∷ checked_C_raised ∷ checked_D ∷ checked_E ∷ checked_F ∷ checked_G ∷ checked_H
     ∷ checked_I ∷ checked_I_pushed ∷ checked_I_file ∷ checked_I_both ∷ checked_I_panel ∷ checked_loading ∷ checked_I_own
-    ∷ checked_I_apart ∷ checked_I_thick ∷ []
+    ∷ checked_I_apart ∷ checked_I_thick ∷ checked_I_no_rows ∷ checked_no_rows_refused ∷ []

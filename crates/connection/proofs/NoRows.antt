@@ -1,0 +1,68 @@
+-- A face with no rows: no force is shared, and what is reckoned with the forces goes by the empty list. Assumes nothing.
+use Rattle.std.specs.Prelude.{Option}
+use mathlib.Core.Path.{◌≡◌, refl, ap, subst, ◌∙◌}
+use mathlib.Core.Bool.{Bool, true, ◌||◌, or-true}
+use mathlib.Core.List.{List, [], ◌∷◌}
+use Prim.Native.Nat.{ℕ, ◌*◌, zero-le}
+use native.Mathlib.Nat.{zero-add, le_trans, min-le_right}
+use Rattle.std.proofs.lemmas.List.{nil_from_length}
+use Rattle.std.proofs.Math.Seq.{take-nil}
+use lib.Dec.{leb}
+use borrow.Author.Tests.{le-leb}
+use Rattle.joint.specs.Places.{eight_places}
+use Rattle.joint.specs.declared.Bolts.{Bolts}
+use Rattle.joint.specs.declared.Column.{Column}
+use Rattle.joint.specs.declared.Face.{Face}
+use Rattle.strength.specs.declared.BoltStrengths.{BoltStrengths}
+use Rattle.sharing.specs.Groups.{total}
+use Rattle.sharing.specs.Sharing.{moment, newton_metres}
+use Rattle.verdicts.specs.Bending.{carries}
+use Rattle.verdicts.specs.Bolts.{bolt_total, bolts_pass}
+use Rattle.verdicts.specs.Welds.{top_rows, flange_weld_by, flange_weld_passes}
+use Rattle.outcome.specs.Outcome.{FaceOutcome}
+use Rattle.connection.specs.OneFace.{bolt_of, rows_of, levers_of, forces_of, moment_of}
+use Rattle.connection.specs.Connection.{result_of, worked_connection}
+use Rattle.connection.specs.NoRows.{WithNoRows}
+use Rattle.connection.proofs.Answers.{not_refused, in_range_of}
+use Rattle.connection.proofs.Forces.{no_forces}
+
+-- of no forces Z is 0, whatever the levers
+no_moment : (levers : List ℕ) → moment levers [] ≡ 0
+unfolding moment
+no_moment [] = refl
+no_moment (lever ∷ levers) = refl
+
+-- any flange weld carries force 0
+weld_carries : (face : Face) → flange_weld_passes face [] ≡ true
+unfolding top_rows flange_weld_by
+weld_carries face =
+    ap (λ forces. flange_weld_by face (total forces)) (take-nil _)
+    ∙ ap (λ b. leb (10 * face.beam.flange) (14 * face.welds.flange) || b) (le-leb _ _ (le_trans (min-le_right _ _) zero-le)) ∙ or-true _
+
+module _ (panel_counts : Bool) (column : Column) (bolt : BoltStrengths) (face : Face) where
+  of_result : rows_of face ≡ 0 → WithNoRows panel_counts column bolt face (result_of panel_counts column bolt face)
+  unfolding result_of forces_of eight_places newton_metres bolts_pass bolt_total
+  of_result none =
+      let empty : forces_of panel_counts column bolt face ≡ [] = no_forces _ _ none in
+      let z : moment_of face (forces_of panel_counts column bolt face) ≡ 0 = ap (moment_of face) empty ∙ no_moment (levers_of face) in
+      record {
+        forces = ap eight_places empty;
+        sum = ap total empty;
+        newton_metres = ap newton_metres z;
+        bending = ap (carries face.loads face.beam) z;
+        bolts =
+            ap (bolts_pass bolt column face.plate face.shear_rows face.loads.shear) empty
+            ∙ ap (leb face.loads.shear) (zero-add _);
+        flange_weld = ap (flange_weld_passes face) empty ∙ weld_carries face;
+        alone = λ other c. nil_from_length other (c.limits.rows ∙ none);
+      }
+
+-- Whatever has no rows and is not refused.
+pub with_no_rows : (panel_counts : Bool) (column : Column) (bolts : Bolts) (area : Option ℕ) (face : Face) → rows_of face ≡ 0
+    → (answer : FaceOutcome) → worked_connection panel_counts column bolts area face ≡ answer → answer.number ≡ 0
+    → WithNoRows panel_counts column (bolt_of bolts area) face answer.result
+with_no_rows panel_counts column bolts area face none answer e taken =
+    let inside = in_range_of panel_counts column bolts area face answer e taken in
+    let bolt = bolt_of bolts area in
+    let whole = (not_refused panel_counts column bolt face answer inside.1 taken).1 in
+    subst (λ (a : FaceOutcome). WithNoRows panel_counts column bolt face a.result) whole (of_result panel_counts column bolt face none)
