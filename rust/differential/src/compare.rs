@@ -1,8 +1,8 @@
 //! One input, both answers.
 
 use crate::cases::{
-    count_loaded, count_own_table, count_raise, count_read, count_sheet, count_worked,
-    count_written,
+    count_allocated, count_loaded, count_own_table, count_raise, count_read, count_sheet,
+    count_worked, count_written,
 };
 use crate::tally::Tally;
 use proved::{
@@ -255,19 +255,15 @@ pub fn compare_allocate(
     let mut forces = vec![MARK_64; size];
     let answer = proved::allocate(table.count, &table.limits, &mut forces);
     let mut expected = vec![MARK_64; size];
-    let number = match reference::allocate(table.count, &table.limits) {
+    let allocated = reference::allocate(table.count, &table.limits);
+    let number = match allocated {
         Ok(forces) => {
             expected[..FORCES].copy_from_slice(&forces);
             0
         }
         Err(refusal) => refusal as u32,
     };
-    tally.count(match number {
-        0 => "allocate: shared",
-        3 => "allocate: refusal 3",
-        7 => "allocate: refusal 7",
-        _ => "allocate: refusal 8",
-    });
+    count_allocated(table, &allocated, tally);
     same("allocate", table, (answer, forces), (number, expected))
 }
 
@@ -391,10 +387,11 @@ pub fn compare_short(random: &mut Random, tally: &mut Tally) -> Result<(), Diffe
 fn short_allocate(random: &mut Random) -> Result<(), Difference> {
     let mut forces = vec![MARK_64; random.below(FORCES as u64) as usize];
     let untouched = forces.clone();
-    let answer = proved::allocate(1, &[1], &mut forces);
+    let count = random.below(2) as usize;
+    let answer = proved::allocate(count, &[1], &mut forces);
     same(
         "short allocate",
-        &forces.len(),
+        &(count, forces.len()),
         (answer, &forces),
         (SHORT, &untouched),
     )

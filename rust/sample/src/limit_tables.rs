@@ -28,10 +28,11 @@ pub fn limit_table(random: &mut Random) -> LimitTable {
 
 fn count(random: &mut Random) -> usize {
     match random.below(64) {
-        0 => 0,
-        1 => 9,
-        2 => random.pick(&[
+        0 | 1 => 0,
+        2 => 9,
+        3 => random.pick(&[
             10,
+            16,
             255,
             256,
             usize::MAX,
@@ -57,7 +58,8 @@ fn limit(random: &mut Random, kind: u64) -> u64 {
     }
 }
 
-/// A raise of one group's limit, mostly to one that is still taken; none where the count isn't one of rows or the limits are too few.
+/// A raise of one group's limit, mostly to one that is still taken; none where there are no rows, and so no groups, where the count is
+/// none of rows, and where the limits are too few.
 pub fn any_raise(random: &mut Random, table: &LimitTable) -> Option<Raise> {
     let count = table.count;
     if !(1..=ROWS).contains(&count) || table.limits.len() < count * (count + 1) / 2 {
