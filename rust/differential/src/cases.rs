@@ -567,19 +567,7 @@ pub fn count_written(joint: &Joint, written: &Result<usize, WriteRefusal>, tally
         (Err(WriteRefusal::SpareLever), false) => "write: refusal 6",
         (Err(WriteRefusal::SpareLever), true) => "write, two faces: refusal 6",
     });
-    match (written, joint.is_two_faced()) {
-        (Ok(_), _) => count_faces_with_no_rows(joint, &WRITTEN_WITH_NO_ROWS, tally),
-        (Err(WriteRefusal::RowCount), false) => {
-            tally.count_refused_rows("write", joint.face.rows as usize);
-        }
-        (Err(WriteRefusal::RowCount), true) => {
-            tally.count_refused_rows("write, second face", joint.other.rows as usize);
-        }
-        (Err(WriteRefusal::SpareLever), false) if joint.face.rows == 0 => {
-            tally.count("write, no rows: refusal 6");
-        }
-        _ => {}
-    }
+    count_rows_written(joint, written, tally);
     if !joint.is_two_faced() {
         if written.is_ok() && joint.other != Face::default() {
             tally.count("write: file, with something in the second face");
@@ -594,6 +582,23 @@ pub fn count_written(joint: &Joint, written: &Result<usize, WriteRefusal>, tally
         }
         Err(WriteRefusal::SpareLever) if second_has_spare && !first_has_spare => {
             tally.count("write, two faces: refusal 6 of the second");
+        }
+        _ => {}
+    }
+}
+
+/// Faces with no rows, and row counts that are refused.
+fn count_rows_written(joint: &Joint, written: &Result<usize, WriteRefusal>, tally: &mut Tally) {
+    match (written, joint.is_two_faced()) {
+        (Ok(_), _) => count_faces_with_no_rows(joint, &WRITTEN_WITH_NO_ROWS, tally),
+        (Err(WriteRefusal::RowCount), false) => {
+            tally.count_refused_rows("write", joint.face.rows as usize);
+        }
+        (Err(WriteRefusal::RowCount), true) => {
+            tally.count_refused_rows("write, second face", joint.other.rows as usize);
+        }
+        (Err(WriteRefusal::SpareLever), false) if joint.face.rows == 0 => {
+            tally.count("write, no rows: refusal 6");
         }
         _ => {}
     }

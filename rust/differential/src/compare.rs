@@ -335,12 +335,13 @@ fn compare_sheet(bytes: &[u8], random: &mut Random, tally: &mut Tally) -> Result
     let mut lines = Vec::new();
     reference::sheet(bytes, &mut lines);
     count_sheet(bytes, &lines, tally);
-    let spare = random.below(20) as usize;
-    let size = match random.below(4) {
-        0 => random.below(lines.len() as u64 + 1) as usize,
-        1 => longest_sheet(bytes.len()) + spare,
-        _ => lines.len() + spare,
-    };
+    same(
+        "longest sheet",
+        &(bytes, lines.len()),
+        lines.len() <= longest_sheet(bytes.len()),
+        true,
+    )?;
+    let size = output_size(bytes, &lines, random);
     let mut output = vec![MARK_8; size];
     let mut length = MARK_PLACE;
     let answer = proved::sheet(bytes, &mut output, &mut length);
@@ -366,6 +367,16 @@ fn compare_sheet(bytes: &[u8], random: &mut Random, tally: &mut Tally) -> Result
         (answer, length, output),
         (0, lines.len(), expected),
     )
+}
+
+/// Too short for the lines, long enough for any of so many bytes, or about just enough.
+fn output_size(bytes: &[u8], lines: &[u8], random: &mut Random) -> usize {
+    let spare = random.below(20) as usize;
+    match random.below(4) {
+        0 => random.below(lines.len() as u64 + 1) as usize,
+        1 => longest_sheet(bytes.len()) + spare,
+        _ => lines.len() + spare,
+    }
 }
 
 // ---- Slices that are too short
