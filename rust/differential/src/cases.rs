@@ -5,7 +5,7 @@ use reference::{
     forces_without_triangle, greatest_area, is_too_thick, minimum_pitch, moment, panel_shear,
     AllocateRefusal, BoltTable, Check, Column, Face, FaceResult, FileKind, Joint, JointResult,
     LoadRefusal, OtherResult, Plate, Raise, ReadRefusal, Trouble, Verdicts, WorkRefusal,
-    WriteRefusal, LONGEST_INPUT, ROWS, SECOND_FACE, SIZES,
+    WriteRefusal, GREATEST_LIMIT, LONGEST_INPUT, ROWS, SECOND_FACE, SIZES,
 };
 use sample::{goes_by_triangle, LimitTable};
 
@@ -482,7 +482,7 @@ pub fn count_allocated(
         tally.count_refused_rows("allocate", table.count);
     }
     tally.count(match allocated {
-        Ok(_) if table.count == 0 => no_rows_case(&table.limits),
+        Ok(_) if table.count == 0 => case_of_no_rows(&table.limits),
         Ok(_) => "allocate: shared",
         Err(AllocateRefusal::RowCount) => "allocate: refusal 3",
         Err(AllocateRefusal::FewLimits) => "allocate: refusal 7",
@@ -491,10 +491,10 @@ pub fn count_allocated(
 }
 
 /// Any limits are further ones.
-fn no_rows_case(limits: &[u64]) -> &'static str {
+fn case_of_no_rows(limits: &[u64]) -> &'static str {
     if limits.is_empty() {
         "allocate, no rows: no limits"
-    } else if limits.iter().any(|&limit| limit > 4_000_000_000) {
+    } else if limits.iter().any(|&limit| limit > GREATEST_LIMIT) {
         "allocate, no rows: further limits, one above the greatest"
     } else {
         "allocate, no rows: further limits"

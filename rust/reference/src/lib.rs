@@ -26,7 +26,7 @@ pub use joint::{
 };
 pub use outcome::{Check, FaceResult, JointResult, OtherResult, Trouble, Verdicts, WorkRefusal};
 pub use raising::{broken_rule, moment, place, raised, Raise};
-pub use sharing::{allocate, AllocateRefusal, GROUPS};
+pub use sharing::{allocate, AllocateRefusal, GREATEST_LIMIT, GROUPS};
 pub use sheet::{sheet, LONGEST_INPUT};
 pub use strength::is_too_thick;
 pub use work::{forces_without_triangle, minimum_pitch, work};

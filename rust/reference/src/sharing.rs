@@ -6,7 +6,7 @@ use crate::joint::ROWS;
 pub const GROUPS: usize = ROWS * (ROWS + 1) / 2;
 
 /// No limit above this is taken.
-const GREATEST_LIMIT: u64 = 4_000_000_000;
+pub const GREATEST_LIMIT: u64 = 4_000_000_000;
 
 #[derive(Clone, Copy, Debug, PartialEq, Eq)]
 pub enum AllocateRefusal {
