@@ -22,7 +22,7 @@ use Rattle.allocation.specs.Steps.{Shareable}
 use Rattle.allocation.proofs.Bound.{both, each_within}
 
 at_most_eight : (n : ℕ) → within row_counts n ≡ true → n ≤ 8
-at_most_eight n rows = leb-true n 8 (both (leb 1 n) (leb n 8) rows).1
+at_most_eight n rows = leb-true n 8 (both (leb 0 n) (leb n 8) rows).1
 
 -- the places of the rows are the forces
 pub rows_kept : (n : ℕ) (limit : Table) → take n (eight_places (shared limit n)) ≡ shared limit n

@@ -18,7 +18,7 @@ const MOST: u64 = 4_000_000_000;
 // What a list of limits is refused for.
 #[derive(Clone, Copy, PartialEq, Eq, Debug)]
 pub enum LimitsRefusal {
-    // no row, or more than eight
+    // more than eight rows
     RowCount = 3,
     // fewer than the groups
     TooFewLimits = 7,

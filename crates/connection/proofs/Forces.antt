@@ -1,17 +1,18 @@
 -- The limits of a joint's groups with the cap stored on group 1 to n: they agree with the limits that the cap has joined, so they
--- share alike, in a triangle or without. Group 1 to n has the n-th place, and no other group has it. Assumes nothing.
+-- share alike, in a triangle or without. Group 1 to n has the n-th place, and no other group has it. Where there are no rows there is no
+-- such group, and nothing is shared. Assumes nothing.
 use Rattle.std.specs.Prelude.{Option}
 use mathlib.Core.Path.{◌≡◌, refl, sym, ap, ap₂, ◌∙◌}
 use mathlib.Core.Bool.{Bool, true, false, cond, ◌&&◌}
 use Prim.Native.Nat.{ℕ, zero, suc, ◌-◌, ◌≤◌, ◌<◌, zero-le, min}
 use native.Mathlib.Omega.{arith}
-use mathlib.Core.List.{List}
+use mathlib.Core.List.{List, []}
 use lib.ListN.{length, get_or, set, replicate, length-set}
 use lib.Dec.{eqb}
 use borrow.Author.Tests.{eqb-true, eqb-false}
 use Rattle.arithmetic.proofs.Store.{store_keeps}
 use Rattle.sharing.specs.Groups.{Table, groups_above, group_count, place_of, listed, with_cap, most_limit}
-use Rattle.sharing.specs.Sharing.{shared}
+use Rattle.sharing.specs.Sharing.{shared, forces_down_to}
 use Rattle.sharing.proofs.Places.{group_count_le, stored_same, stored_other}
 use Rattle.sharing.specs.Triangle.{Triangle, limits_in}
 use Rattle.sharing.proofs.Triangle.{shared_in_agrees}
@@ -52,6 +53,11 @@ module _ (n cap : ℕ) (limit : Table) (entry table : List ℕ) (filled : TableF
   pub forces_agree : (triangle : Option Triangle)
       → shared (limits_in triangle (listed n (set table (n - 1) stored)) n) n ≡ shared (limits_in triangle (with_cap limit n cap) n) n
   forces_agree triangle = shared_in_agrees triangle _ _ n agrees
+
+-- where there are no rows, no force is shared
+pub no_forces : (limit : Table) (n : ℕ) → n ≡ 0 → shared limit n ≡ []
+unfolding shared forces_down_to
+no_forces limit n none = rw none refl
 
 zeros_small : (m i : ℕ) → get_or (replicate m 0) i 0 ≤ most_limit
 zeros_small zero i = zero-le

@@ -149,7 +149,8 @@ impl<'a> FaceAtWork<'a> {
         }
     }
 
-    // The forces of the rows, under the limits of all groups and the cap on them together, in the triangle or without.
+    // The forces of the rows, under the limits of all groups and the cap on them together, in the triangle or without. Where there are no
+    // rows the cap has no group to stand on.
     fn row_forces(&self, cap: u64) -> [u64; 8]
         requires { Admissible self.now.column.now self.now.face.now }
         ensures value { result
@@ -159,6 +160,9 @@ impl<'a> FaceAtWork<'a> {
         ensures by_index { (k : ℕ) → get_or result k 0 ≤ most_limit }
     {
         let rows = self.face.rows as usize;
+        if rows == 0 {
+            return [0; 8];
+        }
         let whole = rows - 1;
         let mut limits = [0u64; 36];
         tension::group_limits(

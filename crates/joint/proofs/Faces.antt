@@ -1,4 +1,4 @@
--- What field 1 says of the rows: marked counts are 17 to 24, and others are as stored. Assumes nothing.
+-- What field 1 says of the rows: marked counts are 16 to 24, and others are as stored. Assumes nothing.
 use mathlib.Core.Path.{◌≡◌, refl}
 use mathlib.Core.Bool.{Bool, true, false, and-eq-true_iff}
 use Prim.Native.Nat.{ℕ, ◌≤◌}
@@ -11,14 +11,14 @@ use Rattle.joint.specs.Faces.{marked_counts, two_faced, first_rows}
 pub marked : (count : ℕ) → two_faced count ≡ true → Within marked_counts count
 unfolding two_faced
 marked count e =
-    let both = (and-eq-true_iff (leb 17 count) (leb count 24)).0 e in
-    record { low = leb-true 17 count both.0; high = leb-true count 24 both.1 }
+    let both = (and-eq-true_iff (leb 16 count) (leb count 24)).0 e in
+    record { low = leb-true 16 count both.0; high = leb-true count 24 both.1 }
 
 pub rows_as_stored : (count : ℕ) → two_faced count ≡ false → first_rows count ≡ count
 unfolding first_rows
 rows_as_stored count e = rw e
 
--- a count of a joint with rows from 1 to 8 is no greater than a marked one
+-- a count of a joint with at most eight rows is no greater than a marked one
 pub count_most : (count : ℕ) → first_rows count ≤ 8 → count ≤ marked_counts.high
 count_most count few = by_mark (two_faced count) refl
   where

@@ -8,7 +8,7 @@ use native.Mathlib.Nat.{add-zero, add-suc, suc-add, zero-add, le_of_suc-le-suc, 
 use native.Mathlib.Decide.{dec_lt}
 use native.Mathlib.Omega.{arith}
 use borrow.Author.Tests.{lt-ltb}
-use lib.Dec.{T, leb, ltb, leb→le}
+use lib.Dec.{T, leb, ltb, eqb, leb→le}
 use lib.IntN.{ℤ, pos, negsuc, nat_abs}
 use lib.ListN.{length, get_or, get_or-eq_default}
 use lib.Seq.{get_or-append-add}
@@ -85,7 +85,7 @@ module _ (column : Column) (bolts : Bolts) (area : Option ℕ) (face : Face)
         bolts = record { class = field 3; diameter = field 4 };
         face = record {
           rows = within_yes row_counts face.rows (field 1);
-          extended = within_yes flags face.extended (field 2);
+          extended = within_yes (flags face.rows) face.extended (field 2);
           beam = record {
             grade = field 6;
             depth = within_yes depths beam.depth (field 14);
@@ -120,6 +120,14 @@ module _ (column : Column) (bolts : Bolts) (area : Option ℕ) (face : Face)
 
 -- what a range that goes by another field says where that field is known
 module _ (face : Face) (r : FaceInRange face) where
+  -- field 2 is 0 or 1, whatever the rows
+  pub extended_most : face.extended ≤ 1
+  extended_most = high (eqb face.rows 0) r.extended
+    where
+      high : (none : Bool) {x : ℕ} → Within (cond none (0 to 0) (0 to 1)) x → x ≤ 1
+      high true w = omega (arith, w.high)
+      high false w = w.high
+
   -- no lever is above the greatest, and places past the last lever are 0
   pub lever_most : (row : ℕ) → get_or face.levers row 0 ≤ most_lever
   lever_most row =

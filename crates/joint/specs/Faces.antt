@@ -9,7 +9,7 @@ use Rattle.joint.specs.declared.Joint.{Joint}
 abbrev pub second_face_mark : ℕ
 second_face_mark = 16
 
--- so 17 to 24
+-- so 16 to 24
 abbrev pub marked_counts : Range
 marked_counts = (second_face_mark + row_counts.low) to (second_face_mark + row_counts.high)
 
@@ -17,7 +17,7 @@ marked_counts = (second_face_mark + row_counts.low) to (second_face_mark + row_c
 unfoldable pub two_faced : (count : ℕ) → Bool
 two_faced count = within marked_counts count
 
--- the rows of the first face by field 1: only 17 to 24 have the mark, and it comes off
+-- the rows of the first face by field 1: only 16 to 24 have the mark, and it comes off
 unfoldable pub first_rows : (count : ℕ) → ℕ
 first_rows count = cond (two_faced count) (count - second_face_mark) count
 

@@ -23,7 +23,7 @@ use Rattle.joint.specs.declared.OutOfRange.{OutOfRange}
 abbrev pub head_checks : (rows extended class : ℕ) → Option ℕ → List Check
 head_checks rows extended class area =
     (1, within row_counts rows)
-    ∷ (2, within flags extended)
+    ∷ (2, within (flags rows) extended)
     ∷ (3, one_of classes class)
     ∷ (4, is_listed area)
     ∷ []

@@ -60,7 +60,7 @@ pub record LoadsInRange (forces : Loads) : Type 0 where
 
 pub record FaceInRange (face : Face) : Type 0 where
   pub rows : Within row_counts face.rows
-  pub extended : Within flags face.extended
+  pub extended : Within (flags face.rows) face.extended
   pub beam : BeamInRange face.beam
   pub plate : PlateInRange face.plate
   pub layout : LayoutInRange face.extended face.layout

@@ -5,11 +5,11 @@ use Rattle.arithmetic.specs.Range.{Range, ◌to◌}
 
 -- field 1, n, of a face; that of a joint's first face may be marked (`Faces`)
 abbrev pub row_counts : Range
-row_counts = 1 to 8
+row_counts = 0 to 8
 
--- field 2: 0 flush, 1 extended
-abbrev pub flags : Range
-flags = 0 to 1
+-- field 2: 0 flush, 1 extended; with no rows none stands above the beam flange
+abbrev pub flags : (rows : ℕ) → Range
+flags rows = cond (eqb rows 0) (0 to 0) (0 to 1)
 
 -- field 3
 abbrev pub classes : List ℕ

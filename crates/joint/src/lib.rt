@@ -103,7 +103,7 @@ pub struct Loads {
 // 10 tells what is out of range.
 #[derive(Clone, Copy)]
 pub struct Face {
-    // 1: count of bolt rows n, 1 to 8; a joint's first face has it as stored, raised by 16 where a second face follows
+    // 1: count of bolt rows n, 0 to 8; a joint's first face has it as stored, raised by 16 where a second face follows
     pub rows: u32,
     // 2: 1 if row 1 stands above the beam flange, else 0
     pub extended: u32,
@@ -133,7 +133,7 @@ pub struct Joint {
 pub fn is_two_faced(count: u32) -> bool
     ensures { result ≡ two_faced count }
 {
-    (17..=24).contains(&count)
+    (16..=24).contains(&count)
 }
 
 // The rows of the first face by field 1.
@@ -189,7 +189,7 @@ pub fn check_fields(
 pub fn is_row_count(count: usize) -> bool
     ensures { result ≡ within row_counts count }
 {
-    (1..=8).contains(&count)
+    (0..=8).contains(&count)
 }
 
 // A field by its test.
@@ -218,13 +218,14 @@ fn is_grade(field: u32, grade: u32) -> Result<(), OutOfRange>
     holds(field, matches!(grade, 275 | 355))
 }
 
-// Fields 1 to 4.
+// Fields 1 to 4. A plate with no rows is flush.
 #[tactic(auto, using(crate::proofs::Fields::check_by_check))]
 fn check_head(rows: u32, extended: u32, class: u32, area: Option<u32>) -> Result<(), OutOfRange>
     ensures { result ≡ found_by (head_checks rows extended class area) }
 {
-    in_range(1, rows, 1, 8)?;
-    in_range(2, extended, 0, 1)?;
+    in_range(1, rows, 0, 8)?;
+    let most = if rows == 0 { 0 } else { 1 };
+    in_range(2, extended, 0, most)?;
     holds(3, matches!(class, 46 | 88 | 109))?;
     holds(4, area.is_some())
 }

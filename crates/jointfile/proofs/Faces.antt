@@ -1,6 +1,6 @@
 -- A test of each face that a joint has: it passes where both faces do, and what it says of each; and of the test of the row counts, that
 -- there are few rows. By cases on the mark. Assumes nothing.
-use Prim.Native.Nat.{ℕ, ◌≤◌}
+use Prim.Native.Nat.{ℕ, ◌≤◌, zero-le}
 use mathlib.Core.Path.{◌≡◌, refl}
 use mathlib.Core.Bool.{Bool, true, false, cond, and-eq-true_iff}
 use borrow.Author.Tests.{leb-true}
@@ -33,8 +33,8 @@ module _ (test : Face → Bool) (joint : Joint) where
 
 pub row_count : (rows : ℕ) → within row_counts rows ≡ true → Within row_counts rows
 row_count rows e =
-    let both = (and-eq-true_iff (leb 1 rows) (leb rows 8)).0 e in
-    record { low = leb-true 1 rows both.0; high = leb-true rows 8 both.1 }
+    let both = (and-eq-true_iff (leb 0 rows) (leb rows 8)).0 e in
+    record { low = zero-le; high = leb-true rows 8 both.1 }
 
 -- the rows of a joint whose row counts are right
 module _ (joint : Joint) (right : (rows_check joint).1 ≡ true) where

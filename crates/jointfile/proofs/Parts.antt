@@ -69,7 +69,7 @@ eight_levers rows levers long few spare =
     simp (length-take, length-drop) (omega arith) in
     rw (count, zeros (drop rows levers) spare, take-append-drop)
 
--- ---- a part that can be held, whose rows are from 1 to 8 and whose spare levers are 0
+-- ---- a part that can be held, whose rows are at most eight and whose spare levers are 0
 
 -- the rows of a part by its fields, of which the count is the first
 abbrev pub part_rows : (first : Bool) (fields : List ℕ) → ℕ

@@ -115,10 +115,6 @@ pub record ToldBy (kind : FileKind) (joint : Joint) : Type 0 where
   pub lacks : drop (stored_field_count kind) (first_fields joint) ≡ lacking kind
   pub alone : OtherTold joint
 
--- No file of the new kind is shorter: a byte for each field and for one lever; and with a second face, one for each field that it has of
--- its own and for one lever of it.
-abbrev pub least_file : ℕ
-least_file = field_count + 1
-
+-- No file of two faces is shorter: a byte for each field, and for each that the second face has of its own. Neither need have a lever.
 abbrev pub least_two_faced : ℕ
-least_two_faced = least_file + (own_count + 1)
+least_two_faced = field_count + own_count

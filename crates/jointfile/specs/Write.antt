@@ -51,7 +51,7 @@ turned_down buffer r = record { refusal = r; size = 0; buffer = buffer }
 abbrev pub wrote : List ℕ → List ℕ → Writing
 wrote buffer bytes = record { refusal = 0; size = length bytes; buffer = at_front bytes buffer }
 
--- 3: a face's row count isn't 1 to 8; 6: a spare lever isn't 0; 5: the buffer is shorter than the file
+-- 3: a face's row count isn't 0 to 8; 6: a spare lever isn't 0; 5: the buffer is shorter than the file
 abbrev pub rows_check : Joint → Check
 rows_check joint = (3, on_faces (λ face. within row_counts face.rows) joint)
 

@@ -44,7 +44,7 @@ fn stored_field_count(kind: FileKind) -> usize
 const UNTOLD_END_DISTANCE: u32 = 15000;
 
 // Why a joint can't be read: the bytes end within it, a number could be stored shorter or has more than 32 bits, or a face's row count isn't
-// 1 to 8.
+// 0 to 8.
 #[derive(Clone, Copy, PartialEq, Eq, Debug)]
 pub enum ReadRefusal {
     BytesEnd = 1,
@@ -167,7 +167,7 @@ pub fn rest(bytes: &[u8], kind: FileKind) -> &[u8]
     }
 }
 
-// Why a joint's file can't be written: a face's row count isn't 1 to 8, the buffer is too short, or a lever past the rows isn't 0.
+// Why a joint's file can't be written: a face's row count isn't 0 to 8, the buffer is too short, or a lever past the rows isn't 0.
 #[derive(Clone, Copy, PartialEq, Eq, Debug)]
 pub enum WriteRefusal {
     RowCount = 3,
@@ -183,11 +183,8 @@ impl WriteRefusal {
     }
 }
 
-// No file of the new kind is shorter: a byte for each field and for one lever; and with a second face, one for each field that it has of
-// its own and for one lever of it.
-const LEAST_FILE: usize = FIELD_COUNT + 1;
-
-pub const LEAST_TWO_FACED: usize = LEAST_FILE + OWN_COUNT + 1;
+// No file of two faces is shorter: a byte for each field, and for each that the second face has of its own. Neither need have a lever.
+pub const LEAST_TWO_FACED: usize = FIELD_COUNT + OWN_COUNT;
 
 // Whether so many places hold the numbers of a file. The first takes one byte and each other at most five; only a buffer that may be too
 // short by that asks for measuring. They are four slices and no structs, since writing files of two faces from structs was slower.

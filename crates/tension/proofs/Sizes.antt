@@ -14,7 +14,7 @@ use Rattle.arithmetic.proofs.Bounds.{exactly, ◌⊗◌, ◌⊘◌, loosen}
 use Rattle.joint.specs.Ranges.{edges}
 use Rattle.joint.specs.declared.Column.{Column}
 use Rattle.joint.specs.declared.Face.{Face}
-use Rattle.joint.proofs.InRange.{lever_most}
+use Rattle.joint.proofs.InRange.{extended_most, lever_most}
 use Rattle.strength.specs.Steel.{steel_strengths}
 use Rattle.strength.specs.InRange.{most_thickness, most_pair_tension, SteelInRange}
 use Rattle.strength.specs.declared.SteelStrengths.{SteelStrengths}
@@ -137,7 +137,7 @@ module _ (face : Face) (mx e yp W : ℕ) (x : ExtensionFigures face mx e yp W) w
     distance_range : Within extension_distances mx
     distance_range =
         record {
-          low = x.distance_least (omega (arith, x.face.extended.high));
+          low = x.distance_least (omega (arith, extended_most face x.face));
           high = omega (arith, x.distance, lever_most face x.face 0, x.face.beam.flange.high);
         }
 
