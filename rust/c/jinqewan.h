@@ -2,9 +2,11 @@
  *
  * A slice is a pointer with its count of elements. A joint is 66 words: its fields in order (docs/rules.md, 2.1) with eight levers, spare
  * ones 0, then the second face's fields 1, 2, 6, 7 and 14 to 29 with its eight levers. These last 28 words are looked at only where field 1
- * is 17 to 24, and jinqewan_read puts 0 there for a joint with one face. The axial force is its two's complement. A bolt table is 25 words:
- * its count of sizes, twelve diameters in millimetres and twelve areas in tenths of a square millimetre, of which only the counted ones
- * are looked at. An area is the tensile stress area of the thread, not the shank's, and nothing here can tell them apart. Slices that a call reads and slices that it writes don't overlap.
+ * is 16 to 24, and jinqewan_read puts 0 there for a joint with one face. A face may have no rows: then its field 1 is 0, or 16 where a
+ * second face follows, its field 2 is 0, and all its levers are spare ones. The axial force is its two's complement. A bolt table is 25
+ * words: its count of sizes, twelve diameters in millimetres and twelve areas in tenths of a square millimetre, of which only the counted
+ * ones are looked at. An area is the tensile stress area of the thread, not the shank's, and nothing here can tell them apart. Slices that
+ * a call reads and slices that it writes don't overlap.
  *
  * Each call but jinqewan_rest answers 0 where it did what it is for, and else one number that tells why not: the refusal's number
  * (JINQEWAN_NUMBER), for refusal 10 the field (JINQEWAN_FIELD) and, where jinqewan_work refuses a joint with two faces, the face
@@ -51,8 +53,9 @@ enum {
 #define JINQEWAN_FIELD(answer) (((answer) >> 8) & 255u)
 #define JINQEWAN_FACE(answer) (((answer) >> 16) & 255u)
 
-/* No sheet of so many bytes of input is longer, up to JINQEWAN_LONGEST_INPUT of them. */
-#define JINQEWAN_LONGEST_SHEET(bytes) (((size_t)(bytes) + 25) / 26 * 285)
+/* No sheet of so many bytes of input is longer, up to JINQEWAN_LONGEST_INPUT of them: it has a line for each 25 of them, and one for what
+ * is left. */
+#define JINQEWAN_LONGEST_SHEET(bytes) (((size_t)(bytes) + 24) / 25 * 285)
 
 /* The words of a result. Those of the second face stand JINQEWAN_SECOND_FACE places further on; they are 0 where there is none. */
 enum {
@@ -70,7 +73,8 @@ enum {
     JINQEWAN_PANEL = 34         /* of two faces: 1 where the column's web panel passes, else 0 */
 };
 
-/* Row forces under the limits of row groups 1-1, 1-2, .. 1-n, 2-2 and so on. `forces` has 8 places. */
+/* Row forces under the limits of row groups 1-1, 1-2, .. 1-n, 2-2 and so on, for 0 to 8 rows; no rows need no limits. `forces` has 8
+ * places. */
 uint32_t jinqewan_allocate(size_t count, const uint64_t *limits, size_t limits_length, uint64_t *forces, size_t forces_length);
 
 /* The joint that the bytes, files of this kind, begin with, into `fields`, which has 66 places, and the place after it into `next`. */
@@ -94,7 +98,7 @@ uint32_t jinqewan_load(const uint32_t *table, size_t table_length, uint32_t *in_
 
 /* The joint worked by a bolt table, into `result`, which has 35 places. To this call a table that jinqewan_load would refuse has no sizes:
  * field 4 is then refused by 10, whatever it is. Where column flange and plate are both too thick for the bolts, which was refused by 14
- * once, the rows go by P207's triangle. */
+ * once, the rows go by P207's triangle. A face with no rows comes to no forces, sum 0 and moment 0, and the rest is worked as ever. */
 uint32_t jinqewan_work(const uint32_t *table, size_t table_length, const uint32_t *fields, size_t fields_length, uint64_t *result,
     size_t result_length);
 

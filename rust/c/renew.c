@@ -5,8 +5,8 @@
 #include <inttypes.h>
 #include <stdio.h>
 
-/* A file gains the two bytes of 15000, and has 30 or more before. */
-enum { LONGEST_OUTPUT = JINQEWAN_LONGEST_INPUT + JINQEWAN_LONGEST_INPUT / 30 * 2 };
+/* A file gains the two bytes of 15000, and has 29 or more before. */
+enum { LONGEST_OUTPUT = JINQEWAN_LONGEST_INPUT + JINQEWAN_LONGEST_INPUT / 29 * 2 };
 
 static uint8_t input[JINQEWAN_LONGEST_INPUT + 1];
 static uint8_t output[LONGEST_OUTPUT];

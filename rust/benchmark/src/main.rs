@@ -21,6 +21,8 @@ const TWO_FACED_SEED: u64 = 8;
 const OWN_TABLE_SEED: u64 = 9;
 /// Of joints whose rows go by the triangle, so that the others stay the same.
 const TRIANGLE_SEED: u64 = 10;
+/// Of joints with no rows, so that the others stay the same.
+const NO_ROWS_SEED: u64 = 11;
 /// Different inputs of each line.
 const INPUTS: usize = 512;
 
@@ -51,6 +53,8 @@ fn main() {
     two_faced_lines(&mut Random::new(TWO_FACED_SEED));
     own_table_lines(&mut Random::new(OWN_TABLE_SEED));
     triangle_lines(&mut Random::new(TRIANGLE_SEED));
+    let no_rows = alike_joints(&mut Random::new(NO_ROWS_SEED), 0);
+    line("work, no rows", time_work(&BUILT_IN, &no_rows));
 }
 
 fn two_faced_lines(random: &mut Random) {

@@ -3,11 +3,11 @@
 use crate::tally::Tally;
 use reference::{
     forces_without_triangle, greatest_area, is_too_thick, minimum_pitch, moment, panel_shear,
-    BoltTable, Check, Column, Face, FaceResult, FileKind, Joint, JointResult, LoadRefusal,
-    OtherResult, Plate, Raise, ReadRefusal, Trouble, Verdicts, WorkRefusal, WriteRefusal,
-    LONGEST_INPUT, ROWS, SECOND_FACE, SIZES,
+    AllocateRefusal, BoltTable, Check, Column, Face, FaceResult, FileKind, Joint, JointResult,
+    LoadRefusal, OtherResult, Plate, Raise, ReadRefusal, Trouble, Verdicts, WorkRefusal,
+    WriteRefusal, GREATEST_LIMIT, LONGEST_INPUT, ROWS, SECOND_FACE, SIZES,
 };
-use sample::goes_by_triangle;
+use sample::{goes_by_triangle, LimitTable};
 
 // ---- Work
 
@@ -21,6 +21,7 @@ pub fn count_worked(
         Ok(result) => result,
         Err(refusal) => return count_refusal(joint, refusal, tally),
     };
+    count_faces_with_no_rows(joint, &WORKED_WITH_NO_ROWS, tally);
     let Some(other) = &result.other else {
         tally.count("work: worked");
         if joint.other != Face::default() {
@@ -42,7 +43,32 @@ pub fn count_worked(
     count_panel(joint, &result.face, other, tally);
 }
 
+/// What a joint with no rows is counted as: on its only face, on the first of two alone, on the second alone, on both.
+type NoRows = [&'static str; 4];
+
+const WORKED_WITH_NO_ROWS: NoRows = [
+    "work, no rows: worked",
+    "work, two faces: no rows on the first",
+    "work, two faces: no rows on the second",
+    "work, two faces: no rows on both",
+];
+
+/// Of a joint whose row counts are in range.
+fn count_faces_with_no_rows(joint: &Joint, cases: &NoRows, tally: &mut Tally) {
+    let case = match (joint.face.rows, joint.other.rows) {
+        (0, _) => 0,
+        (SECOND_FACE, 0) => 3,
+        (SECOND_FACE, _) => 1,
+        (_, 0) if joint.is_two_faced() => 2,
+        _ => return,
+    };
+    tally.count(cases[case]);
+}
+
 fn count_refusal(joint: &Joint, refusal: &WorkRefusal, tally: &mut Tally) {
+    if refused_face(joint, refusal).rows == 0 {
+        count_refusal_with_no_rows(refusal.trouble, tally);
+    }
     match refusal.trouble {
         Trouble::Field(field) => tally.count_field(refusal.face, field),
         Trouble::RowsTooClose => {
@@ -57,6 +83,16 @@ fn count_refusal(joint: &Joint, refusal: &WorkRefusal, tally: &mut Tally) {
         0 => refusal_case(refusal.trouble),
         1 => refusal_case_of_first(refusal.trouble),
         _ => refusal_case_of_second(refusal.trouble),
+    });
+}
+
+fn count_refusal_with_no_rows(trouble: Trouble, tally: &mut Tally) {
+    tally.count(match trouble {
+        Trouble::Field(2) => "work, no rows: refusal 10 by field 2",
+        Trouble::Field(31..) => "work, no rows: refusal 10 by a lever",
+        Trouble::TooTight => "work, no rows: refusal 13",
+        Trouble::Compression => "work, no rows: refusal 15",
+        _ => "work, no rows: refusal 10 by another field",
     });
 }
 
@@ -142,18 +178,89 @@ fn count_face(joint: &Joint, face: &Face, result: &FaceResult, tally: &mut Tally
     } else {
         "work: flush"
     });
-    tally.count(match result.check {
-        Check::Flange => "work: governed by F",
-        Check::Bearing => "work: governed by B",
-        Check::Buckling => "work: governed by K",
-        Check::Panel => "work: governed by S",
-    });
+    count_result(result, &OF_ANY_FACE, tally);
+    if face.rows == 0 {
+        count_face_with_no_rows(joint, face, result, tally);
+    }
     if result.sum == result.cap {
         tally.count("work: limited by the cap");
     }
     count_apart(joint.bolts.diameter, face, tally);
     count_column_end(&joint.column, result.check, tally);
-    count_verdicts(&result.verdicts, tally);
+}
+
+fn count_face_with_no_rows(joint: &Joint, face: &Face, result: &FaceResult, tally: &mut Tally) {
+    count_result(result, &OF_NO_ROWS, tally);
+    if 14 * face.welds.flange < 10 * face.beam.flange {
+        tally.count("work, no rows: the flange weld's leg alone isn't enough");
+    }
+    if goes_by_triangle(joint, face) {
+        tally.count("work, no rows: flange and plate both too thick");
+    }
+    if result.cap == 0 {
+        tally.count("work, no rows: N is the governing force");
+    }
+}
+
+/// What a result is counted as: by the check that governs, and by each verdict, passing first.
+struct ResultCases {
+    checks: [&'static str; 4],
+    verdicts: [[&'static str; 2]; 4],
+}
+
+const OF_ANY_FACE: ResultCases = ResultCases {
+    checks: [
+        "work: governed by F",
+        "work: governed by B",
+        "work: governed by K",
+        "work: governed by S",
+    ],
+    verdicts: [
+        ["work: bending passes", "work: bending fails"],
+        ["work: bolts pass", "work: bolts fail"],
+        ["work: flange weld passes", "work: flange weld fails"],
+        ["work: web weld passes", "work: web weld fails"],
+    ],
+};
+
+const OF_NO_ROWS: ResultCases = ResultCases {
+    checks: [
+        "work, no rows: governed by F",
+        "work, no rows: governed by B",
+        "work, no rows: governed by K",
+        "work, no rows: governed by S",
+    ],
+    verdicts: [
+        [
+            "work, no rows: bending passes",
+            "work, no rows: bending fails",
+        ],
+        ["work, no rows: bolts pass", "work, no rows: bolts fail"],
+        [
+            "work, no rows: flange weld passes",
+            "work, no rows: flange weld fails",
+        ],
+        [
+            "work, no rows: web weld passes",
+            "work, no rows: web weld fails",
+        ],
+    ],
+};
+
+fn count_result(result: &FaceResult, cases: &ResultCases, tally: &mut Tally) {
+    tally.count(cases.checks[result.check as usize]);
+    let Verdicts {
+        bending,
+        bolts,
+        flange_weld,
+        web_weld,
+    } = result.verdicts;
+    for (passes, [passing, failing]) in [bending, bolts, flange_weld, web_weld]
+        .into_iter()
+        .zip(cases.verdicts)
+    {
+        tally.count(if passes { passing } else { failing });
+    }
 }
 
 /// What the triangle did to a face's rows, or that only one part is too thick.
@@ -235,29 +342,6 @@ fn count_column_end(column: &Column, check: Check, tally: &mut Tally) {
     } else if end - edge <= 10 {
         tally.count("work: column end one step past 0.7dc");
     }
-}
-
-fn count_verdicts(verdicts: &Verdicts, tally: &mut Tally) {
-    tally.count(if verdicts.bending {
-        "work: bending passes"
-    } else {
-        "work: bending fails"
-    });
-    tally.count(if verdicts.bolts {
-        "work: bolts pass"
-    } else {
-        "work: bolts fail"
-    });
-    tally.count(if verdicts.flange_weld {
-        "work: flange weld passes"
-    } else {
-        "work: flange weld fails"
-    });
-    tally.count(if verdicts.web_weld {
-        "work: web weld passes"
-    } else {
-        "work: web weld fails"
-    });
 }
 
 /// How the two totals stand to panel shear.
@@ -389,6 +473,34 @@ fn count_order(
 
 // ---- Allocate
 
+pub fn count_allocated(
+    table: &LimitTable,
+    allocated: &Result<[u64; ROWS], AllocateRefusal>,
+    tally: &mut Tally,
+) {
+    if let Err(AllocateRefusal::RowCount) = allocated {
+        tally.count_refused_rows("allocate", table.count);
+    }
+    tally.count(match allocated {
+        Ok(_) if table.count == 0 => case_of_no_rows(&table.limits),
+        Ok(_) => "allocate: shared",
+        Err(AllocateRefusal::RowCount) => "allocate: refusal 3",
+        Err(AllocateRefusal::FewLimits) => "allocate: refusal 7",
+        Err(AllocateRefusal::LimitTooGreat) => "allocate: refusal 8",
+    });
+}
+
+/// Any limits are further ones.
+fn case_of_no_rows(limits: &[u64]) -> &'static str {
+    if limits.is_empty() {
+        "allocate, no rows: no limits"
+    } else if limits.iter().any(|&limit| limit > GREATEST_LIMIT) {
+        "allocate, no rows: further limits, one above the greatest"
+    } else {
+        "allocate, no rows: further limits"
+    }
+}
+
 /// How far one limit, raised, moved the forces; the levers fall.
 pub fn count_raise(
     raise: &Raise,
@@ -423,6 +535,27 @@ pub fn count_raise(
 
 // ---- Write and Read
 
+const WRITTEN_WITH_NO_ROWS: NoRows = [
+    "write, no rows: file",
+    "write, two faces: file, no rows on the first",
+    "write, two faces: file, no rows on the second",
+    "write, two faces: file, no rows on both",
+];
+
+const READ_WITH_NO_ROWS: NoRows = [
+    "read, no rows: joint",
+    "read, two faces: joint, no rows on the first",
+    "read, two faces: joint, no rows on the second",
+    "read, two faces: joint, no rows on both",
+];
+
+const READ_OLD_WITH_NO_ROWS: NoRows = [
+    "read, no rows, old kind: joint",
+    "read, two faces, old kind: joint, no rows on the first",
+    "read, two faces, old kind: joint, no rows on the second",
+    "read, two faces, old kind: joint, no rows on both",
+];
+
 pub fn count_written(joint: &Joint, written: &Result<usize, WriteRefusal>, tally: &mut Tally) {
     tally.count(match (written, joint.is_two_faced()) {
         (Ok(_), false) => "write: file",
@@ -434,6 +567,7 @@ pub fn count_written(joint: &Joint, written: &Result<usize, WriteRefusal>, tally
         (Err(WriteRefusal::SpareLever), false) => "write: refusal 6",
         (Err(WriteRefusal::SpareLever), true) => "write, two faces: refusal 6",
     });
+    count_rows_written(joint, written, tally);
     if !joint.is_two_faced() {
         if written.is_ok() && joint.other != Face::default() {
             tally.count("write: file, with something in the second face");
@@ -448,6 +582,23 @@ pub fn count_written(joint: &Joint, written: &Result<usize, WriteRefusal>, tally
         }
         Err(WriteRefusal::SpareLever) if second_has_spare && !first_has_spare => {
             tally.count("write, two faces: refusal 6 of the second");
+        }
+        _ => {}
+    }
+}
+
+/// Faces with no rows, and row counts that are refused.
+fn count_rows_written(joint: &Joint, written: &Result<usize, WriteRefusal>, tally: &mut Tally) {
+    match (written, joint.is_two_faced()) {
+        (Ok(_), _) => count_faces_with_no_rows(joint, &WRITTEN_WITH_NO_ROWS, tally),
+        (Err(WriteRefusal::RowCount), false) => {
+            tally.count_refused_rows("write", joint.face.rows as usize);
+        }
+        (Err(WriteRefusal::RowCount), true) => {
+            tally.count_refused_rows("write, second face", joint.other.rows as usize);
+        }
+        (Err(WriteRefusal::SpareLever), false) if joint.face.rows == 0 => {
+            tally.count("write, no rows: refusal 6");
         }
         _ => {}
     }
@@ -476,21 +627,39 @@ pub fn count_read(
         (FileKind::Old, Err(ReadRefusal::NumberForm)) => "read, old kind: refusal 2",
         (FileKind::Old, Err(ReadRefusal::RowCount)) => "read, old kind: refusal 3",
     });
-    if let Err(refusal) = read {
-        if first_face_is_read(bytes, kind) {
-            count_read_of_second(kind, *refusal, tally);
+    let refusal = match read {
+        Ok(joint) => {
+            let cases = match kind {
+                FileKind::New => &READ_WITH_NO_ROWS,
+                FileKind::Old => &READ_OLD_WITH_NO_ROWS,
+            };
+            return count_faces_with_no_rows(joint, cases, tally);
+        }
+        Err(refusal) => *refusal,
+    };
+    let second = second_face_of(bytes, kind);
+    if second.is_some() {
+        count_read_of_second(kind, refusal, tally);
+    }
+    if refusal == ReadRefusal::RowCount {
+        // a count of one byte is itself, any other is 128 or more
+        match second {
+            None => tally.count_refused_rows("read", bytes[0].into()),
+            Some(second) => tally.count_refused_rows("read, second face", second[0].into()),
         }
     }
 }
 
-/// Whether a second face follows a first that can be read.
-fn first_face_is_read(bytes: &[u8], kind: FileKind) -> bool {
+/// The bytes where a second face should begin, after a first that can be read.
+fn second_face_of(bytes: &[u8], kind: FileKind) -> Option<Vec<u8>> {
     let second_face = SECOND_FACE as u8;
-    let Some((count @ 17..=24, rest)) = bytes.split_first() else {
-        return false;
-    };
+    let (&count, rest) = bytes.split_first()?;
+    if !(second_face..=second_face + ROWS as u8).contains(&count) {
+        return None;
+    }
     let alone = [&[count - second_face], rest].concat();
-    reference::read(&alone, kind).is_ok()
+    let (_, second) = reference::read(&alone, kind).ok()?;
+    Some(second.to_vec())
 }
 
 fn count_read_of_second(kind: FileKind, refusal: ReadRefusal, tally: &mut Tally) {
@@ -529,5 +698,9 @@ pub fn count_sheet(bytes: &[u8], lines: &[u8], tally: &mut Tally) {
         .collect();
     if numbers.windows(2).any(|pair| pair[0] == pair[1]) {
         tally.count("sheet: two lines of one joint");
+    }
+    let is_of_no_rows = |line: &[u8]| line.split(|&byte| byte == b' ').nth(1) == Some(b"0");
+    if lines.split(|&byte| byte == b'\n').any(is_of_no_rows) {
+        tally.count("sheet: a line of no rows");
     }
 }

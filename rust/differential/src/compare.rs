@@ -1,8 +1,8 @@
 //! One input, both answers.
 
 use crate::cases::{
-    count_loaded, count_own_table, count_raise, count_read, count_sheet, count_worked,
-    count_written,
+    count_allocated, count_loaded, count_own_table, count_raise, count_read, count_sheet,
+    count_worked, count_written,
 };
 use crate::tally::Tally;
 use proved::{
@@ -255,19 +255,15 @@ pub fn compare_allocate(
     let mut forces = vec![MARK_64; size];
     let answer = proved::allocate(table.count, &table.limits, &mut forces);
     let mut expected = vec![MARK_64; size];
-    let number = match reference::allocate(table.count, &table.limits) {
+    let allocated = reference::allocate(table.count, &table.limits);
+    let number = match allocated {
         Ok(forces) => {
             expected[..FORCES].copy_from_slice(&forces);
             0
         }
         Err(refusal) => refusal as u32,
     };
-    tally.count(match number {
-        0 => "allocate: shared",
-        3 => "allocate: refusal 3",
-        7 => "allocate: refusal 7",
-        _ => "allocate: refusal 8",
-    });
+    count_allocated(table, &allocated, tally);
     same("allocate", table, (answer, forces), (number, expected))
 }
 
@@ -339,12 +335,13 @@ fn compare_sheet(bytes: &[u8], random: &mut Random, tally: &mut Tally) -> Result
     let mut lines = Vec::new();
     reference::sheet(bytes, &mut lines);
     count_sheet(bytes, &lines, tally);
-    let spare = random.below(20) as usize;
-    let size = match random.below(4) {
-        0 => random.below(lines.len() as u64 + 1) as usize,
-        1 => longest_sheet(bytes.len()) + spare,
-        _ => lines.len() + spare,
-    };
+    same(
+        "longest sheet",
+        &(bytes, lines.len()),
+        lines.len() <= longest_sheet(bytes.len()),
+        true,
+    )?;
+    let size = output_size(bytes, &lines, random);
     let mut output = vec![MARK_8; size];
     let mut length = MARK_PLACE;
     let answer = proved::sheet(bytes, &mut output, &mut length);
@@ -372,6 +369,16 @@ fn compare_sheet(bytes: &[u8], random: &mut Random, tally: &mut Tally) -> Result
     )
 }
 
+/// Too short for the lines, long enough for any of so many bytes, or about just enough.
+fn output_size(bytes: &[u8], lines: &[u8], random: &mut Random) -> usize {
+    let spare = random.below(20) as usize;
+    match random.below(4) {
+        0 => random.below(lines.len() as u64 + 1) as usize,
+        1 => longest_sheet(bytes.len()) + spare,
+        _ => lines.len() + spare,
+    }
+}
+
 // ---- Slices that are too short
 
 pub fn compare_short(random: &mut Random, tally: &mut Tally) -> Result<(), Difference> {
@@ -391,10 +398,11 @@ pub fn compare_short(random: &mut Random, tally: &mut Tally) -> Result<(), Diffe
 fn short_allocate(random: &mut Random) -> Result<(), Difference> {
     let mut forces = vec![MARK_64; random.below(FORCES as u64) as usize];
     let untouched = forces.clone();
-    let answer = proved::allocate(1, &[1], &mut forces);
+    let count = random.below(2) as usize;
+    let answer = proved::allocate(count, &[1], &mut forces);
     same(
         "short allocate",
-        &forces.len(),
+        &(count, forces.len()),
         (answer, &forces),
         (SHORT, &untouched),
     )

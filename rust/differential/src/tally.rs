@@ -4,7 +4,10 @@ use std::collections::BTreeMap;
 use std::fmt;
 
 /// What a run of full size has to reach.
-const CASES: [&str; 149] = [
+const CASES: [&str; 188] = [
+    "allocate, no rows: further limits",
+    "allocate, no rows: further limits, one above the greatest",
+    "allocate, no rows: no limits",
     "allocate: refusal 3",
     "allocate: refusal 7",
     "allocate: refusal 8",
@@ -28,15 +31,23 @@ const CASES: [&str; 149] = [
     "raised: something moved",
     "raised: the group's first row didn't move, others did",
     "raised: the whole sum by all of it",
+    "read, no rows, old kind: joint",
+    "read, no rows: joint",
     "read, old kind: joint",
     "read, old kind: refusal 1",
     "read, old kind: refusal 2",
     "read, old kind: refusal 3",
     "read, two faces, old kind: joint",
+    "read, two faces, old kind: joint, no rows on both",
+    "read, two faces, old kind: joint, no rows on the first",
+    "read, two faces, old kind: joint, no rows on the second",
     "read, two faces, old kind: refusal 1 in the second",
     "read, two faces, old kind: refusal 2 in the second",
     "read, two faces, old kind: refusal 3 in the second",
     "read, two faces: joint",
+    "read, two faces: joint, no rows on both",
+    "read, two faces: joint, no rows on the first",
+    "read, two faces: joint, no rows on the second",
     "read, two faces: refusal 1 in the second",
     "read, two faces: refusal 2 in the second",
     "read, two faces: refusal 3 in the second",
@@ -47,6 +58,7 @@ const CASES: [&str; 149] = [
     "read: refusal 3",
     "read: the new kind by a number that isn't 2",
     "sheet: R 4",
+    "sheet: a line of no rows",
     "sheet: ended by a read refusal",
     "sheet: measured first",
     "sheet: no room",
@@ -65,6 +77,25 @@ const CASES: [&str; 149] = [
     "short: work, result",
     "short: work, table",
     "short: write",
+    "work, no rows: N is the governing force",
+    "work, no rows: bending fails",
+    "work, no rows: bending passes",
+    "work, no rows: bolts fail",
+    "work, no rows: bolts pass",
+    "work, no rows: flange and plate both too thick",
+    "work, no rows: flange weld passes",
+    "work, no rows: governed by B",
+    "work, no rows: governed by F",
+    "work, no rows: governed by K",
+    "work, no rows: governed by S",
+    "work, no rows: refusal 10 by a lever",
+    "work, no rows: refusal 10 by field 2",
+    "work, no rows: refusal 13",
+    "work, no rows: refusal 15",
+    "work, no rows: the flange weld's leg alone isn't enough",
+    "work, no rows: web weld fails",
+    "work, no rows: web weld passes",
+    "work, no rows: worked",
     "work, own table, two faces: worked",
     "work, own table: a face in the triangle",
     "work, own table: a refused one without field 4",
@@ -76,6 +107,9 @@ const CASES: [&str; 149] = [
     "work, own table: refusal 19",
     "work, own table: worked",
     "work, two faces: both in the triangle",
+    "work, two faces: no rows on both",
+    "work, two faces: no rows on the first",
+    "work, two faces: no rows on the second",
     "work, two faces: panel at its edge with a total below 0",
     "work, two faces: panel fails",
     "work, two faces: panel passes",
@@ -143,8 +177,13 @@ const CASES: [&str; 149] = [
     "work: web weld passes",
     "work: worked",
     "work: worked, with something in the second face",
+    "write, no rows: file",
+    "write, no rows: refusal 6",
     "write, two faces: 3 of the second before 6 of the first",
     "write, two faces: file",
+    "write, two faces: file, no rows on both",
+    "write, two faces: file, no rows on the first",
+    "write, two faces: file, no rows on the second",
     "write, two faces: refusal 3 of the second",
     "write, two faces: refusal 5",
     "write, two faces: refusal 6",
@@ -156,12 +195,25 @@ const CASES: [&str; 149] = [
     "write: refusal 6",
 ];
 
+/// Row counts that refusal 3 has to tell, next to those that are taken, by the call and the face.
+const REFUSED_ROWS: [(&str, &[usize]); 5] = [
+    ("allocate", &[9, 16]),
+    ("read", &[9, 15, 25]),
+    ("read, second face", &[9, 16, 24]),
+    ("write", &[9, 15, 25]),
+    ("write, second face", &[9]),
+];
+
+/// Refused row counts up to here are counted each.
+const MOST_REFUSED_ROWS: usize = 32;
+
 #[derive(Default)]
 pub struct Tally {
     counts: BTreeMap<&'static str, u64>,
     /// by the face, 0 in a joint with one
     fields: [BTreeMap<u32, u64>; 3],
     rows: [BTreeMap<u32, u64>; 3],
+    refused_rows: BTreeMap<&'static str, BTreeMap<usize, u64>>,
 }
 
 /// What each face is called where it is counted by number.
@@ -182,6 +234,14 @@ impl Tally {
         *self.fields[face as usize].entry(field).or_default() += 1;
     }
 
+    /// The row count that refusal 3 told; a great one isn't listed.
+    pub fn count_refused_rows(&mut self, call: &'static str, rows: usize) {
+        if rows <= MOST_REFUSED_ROWS {
+            let counts = self.refused_rows.entry(call).or_default();
+            *counts.entry(rows).or_default() += 1;
+        }
+    }
+
     /// What was not reached.
     pub fn missed(&self) -> Vec<String> {
         let cases = CASES
@@ -189,7 +249,19 @@ impl Tally {
             .filter(|case| !self.counts.contains_key(**case))
             .map(|case| case.to_string());
         let faces = (0..FACES.len()).flat_map(|face| self.missed_numbers(face));
-        cases.chain(faces).collect()
+        cases.chain(faces).chain(self.missed_refusals()).collect()
+    }
+
+    fn missed_refusals(&self) -> impl Iterator<Item = String> + '_ {
+        let is_reached = |call: &str, rows: &usize| {
+            let counts = self.refused_rows.get(call);
+            counts.is_some_and(|counts| counts.contains_key(rows))
+        };
+        REFUSED_ROWS.iter().flat_map(move |&(call, rows)| {
+            rows.iter()
+                .filter(move |rows| !is_reached(call, rows))
+                .map(move |rows| format!("{call}: refusal 3 by {rows}"))
+        })
     }
 
     /// Fields that were never out of range, and row counts that were never worked.
@@ -198,7 +270,7 @@ impl Tally {
             .filter(move |&field| can_be_out(face, field))
             .filter(move |field| !self.fields[face].contains_key(field))
             .map(move |field| format!("{}: field {field}", FACES[face]));
-        let rows = (1..=8)
+        let rows = (0..=8)
             .filter(move |rows| !self.rows[face].contains_key(rows))
             .map(move |rows| format!("{}: {rows} rows", FACES[face]));
         fields.chain(rows)
@@ -220,13 +292,6 @@ impl fmt::Display for Tally {
         for (case, count) in &self.counts {
             writeln!(out, "{count:>9}  {case}")?;
         }
-        let listed = |counts: &BTreeMap<u32, u64>| {
-            let items: Vec<String> = counts
-                .iter()
-                .map(|(key, count)| format!("{key}: {count}"))
-                .collect();
-            items.join(", ")
-        };
         for (face, name) in FACES.iter().enumerate() {
             writeln!(out, "{name}, worked by rows: {}", listed(&self.rows[face]))?;
             writeln!(
@@ -235,6 +300,17 @@ impl fmt::Display for Tally {
                 listed(&self.fields[face])
             )?;
         }
+        for (call, counts) in &self.refused_rows {
+            writeln!(out, "{call}, refusal 3 by row count: {}", listed(counts))?;
+        }
         Ok(())
     }
+}
+
+fn listed<Key: fmt::Display>(counts: &BTreeMap<Key, u64>) -> String {
+    let items: Vec<String> = counts
+        .iter()
+        .map(|(key, count)| format!("{key}: {count}"))
+        .collect();
+    items.join(", ")
 }

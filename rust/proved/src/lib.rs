@@ -1,5 +1,5 @@
 //! The proved calls. A joint is 66 words of 32 bits: its fields in order (docs/rules.md, 2.1) with eight levers, 38 words, and the second
-//! face's fields 1, 2, 6, 7 and 14 to 29 with eight levers, which are looked at only where field 1 is 17 to 24. N is by its two's
+//! face's fields 1, 2, 6, 7 and 14 to 29 with eight levers, which are looked at only where field 1 is 16 to 24. N is by its two's
 //! complement. A bolt table is 25 words: its count, twelve diameters and twelve areas, of which only the counted ones are looked at. Each
 //! call but `rest` answers 0 where it did what it is for, and else one number that tells why not (`number`, `field`, `face`); then every
 //! slice and place that was lent is as it was.
@@ -45,9 +45,10 @@ pub const fn face(answer: u32) -> u32 {
     answer >> 16 & 255
 }
 
-/// No sheet of so many bytes is longer. In an output that is shorter the lines are measured before they are printed.
+/// No sheet of so many bytes is longer: it has a line for each 25 of them, and one for what is left. In an output that is shorter the lines
+/// are measured before they are printed.
 pub const fn longest_sheet(input: usize) -> usize {
-    (input + 25) / 26 * 285
+    (input + 24) / 25 * 285
 }
 
 mod c {

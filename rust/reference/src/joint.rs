@@ -15,10 +15,10 @@ pub const ONE_FACED_FIELDS: usize = HEAD + ROWS;
 pub const FIELDS: usize = ONE_FACED_FIELDS + OWN + ROWS;
 /// What field 1 is raised by where a second face follows.
 pub const SECOND_FACE: u32 = 16;
-/// Row counts of a face.
-pub const COUNTS: RangeInclusive<u32> = 1..=ROWS as u32;
+/// Row counts of a face; a pinned stub has no rows.
+pub const COUNTS: RangeInclusive<u32> = 0..=ROWS as u32;
 /// Field 1 of a joint with two faces.
-pub const RAISED_COUNTS: RangeInclusive<u32> = SECOND_FACE + 1..=SECOND_FACE + ROWS as u32;
+pub const RAISED_COUNTS: RangeInclusive<u32> = SECOND_FACE..=SECOND_FACE + ROWS as u32;
 
 /// A beam on a column flange through an end plate, or one on each of the two flanges.
 #[derive(Clone, Copy, Debug, Default, PartialEq, Eq)]
@@ -182,7 +182,7 @@ impl Joint {
         head
     }
 
-    /// Field 1 is 17 to 24.
+    /// Field 1 is 16 to 24.
     pub fn is_two_faced(&self) -> bool {
         RAISED_COUNTS.contains(&self.face.rows)
     }

@@ -1,6 +1,6 @@
 //! Document 01, and the rules for joints near the column end, for a beam on both faces, for bolt tables, for rows too close, for one
-//! limit raised and for thick flanges with thick plates, read in plain Rust. It was written from the papers, with the signatures of the
-//! proved calls and some of their bodies known.
+//! limit raised, for thick flanges with thick plates and for plates with no rows, read in plain Rust. It was written from the papers, with
+//! the signatures of the proved calls and some of their bodies known.
 //! Rows count from 0 here, from 1 in the rules.
 
 mod bolt_table;
@@ -26,7 +26,7 @@ pub use joint::{
 };
 pub use outcome::{Check, FaceResult, JointResult, OtherResult, Trouble, Verdicts, WorkRefusal};
 pub use raising::{broken_rule, moment, place, raised, Raise};
-pub use sharing::{allocate, AllocateRefusal, GROUPS};
+pub use sharing::{allocate, AllocateRefusal, GREATEST_LIMIT, GROUPS};
 pub use sheet::{sheet, LONGEST_INPUT};
 pub use strength::is_too_thick;
 pub use work::{forces_without_triangle, minimum_pitch, work};

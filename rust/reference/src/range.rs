@@ -38,7 +38,7 @@ fn fields_hold(column: &Column, bolts: &Bolts, area: Option<u32>, face: &Face) -
     let within = |range: RangeInclusive<u32>, value: u32| range.contains(&value);
     [
         within(COUNTS, face.rows),
-        within(0..=1, face.extended),
+        within(extensions(face), face.extended),
         matches!(bolts.class, 46 | 88 | 109),
         area.is_some(),
         is_grade(column.grade),
@@ -72,6 +72,15 @@ fn fields_hold(column: &Column, bolts: &Bolts, area: Option<u32>, face: &Face) -
 
 fn is_grade(grade: u32) -> bool {
     matches!(grade, 275 | 355)
+}
+
+/// A face with no rows has none above the beam flange.
+fn extensions(face: &Face) -> RangeInclusive<u32> {
+    if face.rows == 0 {
+        0..=0
+    } else {
+        0..=1
+    }
 }
 
 /// A flush plate has no edge distance.

@@ -6,7 +6,7 @@ use crate::joint::ROWS;
 pub const GROUPS: usize = ROWS * (ROWS + 1) / 2;
 
 /// No limit above this is taken.
-const GREATEST_LIMIT: u64 = 4_000_000_000;
+pub const GREATEST_LIMIT: u64 = 4_000_000_000;
 
 #[derive(Clone, Copy, Debug, PartialEq, Eq)]
 pub enum AllocateRefusal {
@@ -15,9 +15,10 @@ pub enum AllocateRefusal {
     LimitTooGreat = 8,
 }
 
-/// The forces of `count` rows; `limits` are those of groups 1–1, 1–2, .. 1–n, 2–2 and so on.
+/// The forces of `count` rows; `limits` are those of groups 1–1, 1–2, .. 1–n, 2–2 and so on. No rows ask for no limits, and any that are
+/// handed over are further ones, which aren't looked at.
 pub fn allocate(count: usize, limits: &[u64]) -> Result<[u64; ROWS], AllocateRefusal> {
-    if !(1..=ROWS).contains(&count) {
+    if count > ROWS {
         return Err(AllocateRefusal::RowCount);
     }
     let limits = limits

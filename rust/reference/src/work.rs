@@ -117,7 +117,7 @@ fn row_forces(
     }
 }
 
-/// The cap is one more limit on all rows together.
+/// The cap is one more limit on all rows together, where there are rows.
 #[inline(always)]
 fn capped_limits(
     column: &Column,
@@ -128,8 +128,9 @@ fn capped_limits(
     cap: u64,
 ) -> [u64; GROUPS] {
     let mut limits = group_limits(column, bolt, face, steel, distances);
-    let all_rows = face.row_count() - 1;
-    limits[all_rows] = limits[all_rows].min(cap);
+    if let Some(all_rows) = face.row_count().checked_sub(1) {
+        limits[all_rows] = limits[all_rows].min(cap);
+    }
     limits
 }
 

@@ -128,10 +128,10 @@ fn read_2_the_form() {
 fn read_3_the_row_count() {
     for kind in KINDS {
         for bytes in [
-            &[0][..],
-            &[9],
-            &[16],
+            &[9][..],
+            &[15],
             &[25],
+            &[0x7f],
             &[0xac, 0x02],
             &[0xff, 0xff, 0xff, 0xff, 0x0f],
         ] {
@@ -187,8 +187,8 @@ fn write_refuses_in_order_and_leaves_the_buffer() {
         assert_eq!(buffer, vec![7; length]);
         refusal
     };
-    assert_eq!(refused(with_field(1, 0), 200), WriteRefusal::RowCount);
-    for count in [9, 16, 25, u32::MAX] {
+    assert_eq!(refused(with_field(1, 9), 200), WriteRefusal::RowCount);
+    for count in [9, 15, 25, u32::MAX] {
         assert_eq!(refused(with_field(1, count), 0), WriteRefusal::RowCount);
     }
     assert_eq!(refused(with_field(38, 1), 0), WriteRefusal::SpareLever);
@@ -202,8 +202,10 @@ fn write_refuses_in_order_and_leaves_the_buffer() {
 
 #[test]
 fn allocate_refuses_in_order() {
-    assert_eq!(allocate(0, &[]), Err(AllocateRefusal::RowCount));
-    assert_eq!(allocate(9, &[0; 45]), Err(AllocateRefusal::RowCount));
+    for count in [9, 16, 17, usize::MAX] {
+        assert_eq!(allocate(count, &[0; 45]), Err(AllocateRefusal::RowCount));
+    }
+    assert_eq!(allocate(9, &[]), Err(AllocateRefusal::RowCount));
     assert_eq!(allocate(2, &[u64::MAX, 0]), Err(AllocateRefusal::FewLimits));
     assert_eq!(
         allocate(2, &[0, 0, 4_000_000_001]),
@@ -264,11 +266,11 @@ fn work_10_ranges() {
 #[test]
 fn work_10_other_fields() {
     for (number, value) in [
-        (1, 0),
         (1, 9),
-        (1, 16),
+        (1, 15),
         (1, 25),
         (1, 33),
+        (1, u32::MAX),
         (2, 2),
         (3, 47),
         (4, 22),

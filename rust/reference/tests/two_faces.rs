@@ -193,10 +193,10 @@ fn a_shared_field_is_the_first_faces() {
 
 #[test]
 fn row_counts_in_work() {
-    for rows in [0, 9, 16, 25, 32, u32::MAX] {
+    for rows in [9, 15, 25, 32, u32::MAX] {
         assert_eq!(refusal(&with(|joint| joint.face.rows = rows)), (10, 1, 0));
     }
-    for rows in [0, 9, 17, 24, u32::MAX] {
+    for rows in [9, 16, 17, 24, u32::MAX] {
         assert_eq!(refusal(&with(|joint| joint.other.rows = rows)), (10, 1, 2));
     }
     // rows without levers, told by the lever's number
@@ -233,7 +233,7 @@ fn files_of_both_kinds_are_read_back() {
     }
 }
 
-/// The longest and the shortest two-faced file.
+/// The longest two-faced file, and the shortest with a row on each face.
 #[test]
 fn lengths_of_files() {
     let most = with(|joint| {
@@ -260,7 +260,7 @@ fn read_3_of_the_second_face() {
     for kind in KINDS {
         let file = file_of_kind(&joint(), kind);
         let first = &file[..if kind == FileKind::Old { 49 } else { 51 }];
-        for count in [0, 9, 16, 17, 24, 127] {
+        for count in [9, 15, 16, 17, 24, 127] {
             let cut = [first, &[count]].concat();
             assert_eq!(read(&cut, kind), Err(ReadRefusal::RowCount));
             let damaged = [first, &[count, 0x80, 0]].concat();
@@ -280,7 +280,7 @@ fn write_tries_each_number_on_both_faces() {
         refusal
     };
     let count = |rows| with(|joint| joint.other.rows = rows);
-    for rows in [0, 9, 17, 24] {
+    for rows in [9, 16, 17, 24] {
         assert_eq!(refused(count(rows), 400), WriteRefusal::RowCount);
     }
     let spare_and_count = with(|joint| {

@@ -4,7 +4,7 @@ use crate::random::Random;
 use crate::two_faces::{any_two_faced_joint, unread_face};
 use reference::{
     is_too_thick, minimum_pitch, work, Beam, BoltTable, Bolts, Column, Face, Joint, Layout, Loads,
-    Plate, Welds, ONE_FACED_FIELDS,
+    Plate, Welds, ONE_FACED_FIELDS, ROWS,
 };
 
 /// The ends of fields 8 to 20, 22 to 26 and 30, which are plain ranges.
@@ -91,9 +91,9 @@ fn end_distance(random: &mut Random, clear: u32) -> u32 {
     }
 }
 
-/// A face whose gauge and levers are still 0.
+/// A face whose gauge and levers are still 0; with no rows it is flush.
 pub fn face(random: &mut Random, rows: u32) -> Face {
-    let extended = random.between(0, 1);
+    let extended = random.between(0, 1).min(rows);
     Face {
         rows,
         extended,
@@ -184,9 +184,14 @@ pub fn any_joint(random: &mut Random, table: &BoltTable) -> Joint {
     }
 }
 
+/// As often none as any other count.
+pub fn any_rows(random: &mut Random) -> u32 {
+    random.between(0, ROWS as u32)
+}
+
 /// A sensible joint, or one in trouble, or with anything in all its fields; now and then with something in the fields of a second face.
 fn any_one_faced_joint(random: &mut Random, table: &BoltTable) -> Joint {
-    let rows = random.between(1, 8);
+    let rows = any_rows(random);
     let mut joint = sensible_joint(random, table, rows);
     if random.one_in(3) {
         thicken_flange(random, &mut joint);
@@ -204,15 +209,30 @@ fn any_one_faced_joint(random: &mut Random, table: &BoltTable) -> Joint {
     joint
 }
 
-/// A field at or past an end of its range, rows out of order, too close or out of place, or bolts too tight.
+/// A field at or past an end of its range, rows out of order, too close or out of place, or bolts too tight. With no rows often something
+/// that only a row has.
 pub fn trouble(random: &mut Random, table: &BoltTable, joint: &mut Joint) {
     match random.below(7) {
+        0..=3 if joint.face.rows == 0 && random.one_in(2) => add_of_a_row(random, &mut joint.face),
         0 | 1 => shift_field(random, table, joint, false),
         2 => shift_field(random, table, joint, true),
         3 => swap_levers(random, &mut joint.face),
         4 => close_up(random, joint.bolts.diameter, &mut joint.face),
         5 => move_row(random, &mut joint.face),
         _ => tighten(random, joint),
+    }
+}
+
+/// A lever, or a plate that reaches over the beam flange, or both.
+fn add_of_a_row(random: &mut Random, face: &mut Face) {
+    let which = random.below(3);
+    if which != 0 {
+        let row = random.below(ROWS as u64) as usize;
+        face.levers[row] = random.between(1, 20001);
+    }
+    if which != 1 {
+        face.extended = 1;
+        face.layout.edge = random.pick(&[0, 150, 500]);
     }
 }
 
@@ -330,8 +350,8 @@ fn ends(table: &BoltTable, face: &Face, number: usize) -> (u32, u32) {
         return (low, high);
     }
     match number {
-        1 => (1, 8),
-        2 => (0, 1),
+        1 => (0, ROWS as u32),
+        2 => (0, face.rows.min(1)),
         3 => (46, 109),
         4 => (diameters[0], diameters[diameters.len() - 1]),
         5..=7 => (275, 355),
@@ -440,7 +460,7 @@ fn wild_fields(random: &mut Random, joint: &mut Joint) {
     let mut fields = joint.to_fields();
     scatter(random, &mut fields[..ONE_FACED_FIELDS]);
     if random.one_in(2) {
-        fields[0] = random.between(1, 8);
+        fields[0] = any_rows(random);
     }
     *joint = Joint::from_fields(&fields);
 }
@@ -457,8 +477,11 @@ pub fn scatter(random: &mut Random, fields: &mut [u32]) {
 #[cfg(test)]
 mod tests {
     use super::*;
-    use reference::BUILT_IN;
+    use reference::{Trouble, BUILT_IN};
     use std::cmp::Ordering;
+
+    /// Fields before the levers.
+    const HEAD: usize = ONE_FACED_FIELDS - ROWS;
 
     /// A good share of the worked joints of each row count, flush and extended.
     #[test]
@@ -477,6 +500,9 @@ mod tests {
             if work(&BUILT_IN, &joint).is_err() {
                 continue;
             }
+            if face.rows == 0 {
+                continue;
+            }
             if goes_by_triangle(&joint, face) {
                 counts[face.extended as usize][face.row_count() - 1] += 1;
             } else if is_too_thick(bolts, column.grade, column.flange) {
@@ -488,6 +514,33 @@ mod tests {
             "{counts:?}"
         );
         assert!(one_thick > 500, "{one_thick}");
+    }
+
+    /// Worked, and refused by what is left to refuse: 10 by field 2 and by each lever, 13 and 15.
+    #[test]
+    fn joints_with_no_rows() {
+        let mut random = Random::new(11);
+        let (mut worked, mut tight, mut compressed) = (0, 0, 0);
+        let mut fields = [0; ONE_FACED_FIELDS];
+        for _ in 0..40_000 {
+            let joint = any_one_faced_joint(&mut random, &BUILT_IN);
+            if joint.face.rows != 0 {
+                continue;
+            }
+            match work(&BUILT_IN, &joint).map_err(|refusal| refusal.trouble) {
+                Ok(_) => worked += 1,
+                Err(Trouble::Field(field)) => fields[field as usize - 1] += 1,
+                Err(Trouble::TooTight) => tight += 1,
+                Err(Trouble::Compression) => compressed += 1,
+                Err(trouble) => panic!("{trouble:?}"),
+            }
+        }
+        assert!(
+            worked > 2_000 && tight > 50 && compressed > 200,
+            "{worked} {tight} {compressed}"
+        );
+        assert!(fields[1] > 100, "{fields:?}");
+        assert!(fields[HEAD..].iter().all(|&count| count > 10), "{fields:?}");
     }
 
     /// Mostly by 25δ or more, often by no more than that, and now and then by less.

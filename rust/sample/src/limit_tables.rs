@@ -1,7 +1,7 @@
 //! Random limit tables for Allocate, raises of one of their limits, and levers.
 
 use crate::random::Random;
-use reference::{place, Raise, ROWS};
+use reference::{place, Raise, GREATEST_LIMIT, ROWS};
 
 /// A count of rows and the limits handed with it.
 #[derive(Debug)]
@@ -9,8 +9,6 @@ pub struct LimitTable {
     pub count: usize,
     pub limits: Vec<u64>,
 }
-
-const GREATEST: u64 = 4_000_000_000;
 
 pub fn limit_table(random: &mut Random) -> LimitTable {
     let count = count(random);
@@ -28,10 +26,11 @@ pub fn limit_table(random: &mut Random) -> LimitTable {
 
 fn count(random: &mut Random) -> usize {
     match random.below(64) {
-        0 => 0,
-        1 => 9,
-        2 => random.pick(&[
+        0 | 1 => 0,
+        2 => 9,
+        3 => random.pick(&[
             10,
+            16,
             255,
             256,
             usize::MAX,
@@ -48,16 +47,17 @@ fn limit(random: &mut Random, kind: u64) -> u64 {
     match kind {
         0 => random.below(4),
         1 => random.below(1000),
-        2 => GREATEST - random.below(3),
-        3 if random.one_in(40) => GREATEST + 1 + random.below(3),
-        3 => random.below(GREATEST + 1),
+        2 => GREATEST_LIMIT - random.below(3),
+        3 if random.one_in(40) => GREATEST_LIMIT + 1 + random.below(3),
+        3 => random.below(GREATEST_LIMIT + 1),
         4 if random.one_in(60) => random.next() | 1 << 63,
-        4 => random.pick(&[0, 1, GREATEST, GREATEST - 1, GREATEST / 2]),
+        4 => random.pick(&[0, 1, GREATEST_LIMIT, GREATEST_LIMIT - 1, GREATEST_LIMIT / 2]),
         _ => random.below(3_000_000),
     }
 }
 
-/// A raise of one group's limit, mostly to one that is still taken; none where the count isn't one of rows or the limits are too few.
+/// A raise of one group's limit, mostly to one that is still taken; none where there are no rows, and so no groups, where the count is
+/// none of rows, and where the limits are too few.
 pub fn any_raise(random: &mut Random, table: &LimitTable) -> Option<Raise> {
     let count = table.count;
     if !(1..=ROWS).contains(&count) || table.limits.len() < count * (count + 1) / 2 {
@@ -66,7 +66,7 @@ pub fn any_raise(random: &mut Random, table: &LimitTable) -> Option<Raise> {
     let first = random.below(count as u64) as usize;
     let last = first + random.below((count - first) as u64) as usize;
     let limit = table.limits[place(count, first, last)];
-    let room = GREATEST.saturating_sub(limit);
+    let room = GREATEST_LIMIT.saturating_sub(limit);
     let newtons = match random.below(8) {
         0 => room,
         1 => room + 1,

@@ -69,7 +69,7 @@ fn damage(random: &mut Random, bytes: &mut Vec<u8>) {
     }
     let place = random.below(bytes.len() as u64) as usize;
     match random.below(8) {
-        7 => bytes[place] = random.pick(&[0, 1, 8, 9, 16, 17, 24, 25]),
+        7 => bytes[place] = random.pick(&[0, 1, 8, 9, 15, 16, 17, 24, 25]),
         0 => bytes.truncate(place),
         1 => bytes[place] ^= 1 << random.below(8),
         2 => bytes[place] = random.pick(&[0, 0x0f, 0x10, 0x7f, 0x80, 0xff]),

@@ -1,8 +1,8 @@
 //! Random joints with a beam on both faces of the column, and second faces that no call may look at.
 
 use crate::joints::{
-    face, gauge, goes_by_triangle, near, place_rows, scatter, sensible_joint, thicken_flange,
-    thicken_plate, trouble,
+    any_rows, face, gauge, goes_by_triangle, near, place_rows, scatter, sensible_joint,
+    thicken_flange, thicken_plate, trouble,
 };
 use crate::random::Random;
 use reference::{panel_shear, work, BoltTable, Face, Joint, FIELDS, SECOND_FACE};
@@ -54,7 +54,7 @@ fn thicken(random: &mut Random, joint: &mut Joint) {
 /// A sensible joint with two faces, or one of them in trouble, or both, or with the panel about as strong as it must be, or with
 /// anything in all its fields.
 pub fn any_two_faced_joint(random: &mut Random, table: &BoltTable) -> Joint {
-    let rows = [random.between(1, 8), random.between(1, 8)];
+    let rows = [any_rows(random), any_rows(random)];
     let mut joint = sensible_two_faced_joint(random, table, rows);
     if random.one_in(3) {
         thicken(random, &mut joint);
@@ -166,7 +166,7 @@ fn wild_fields(random: &mut Random, joint: &mut Joint) {
     scatter(random, &mut fields);
     *joint = Joint::from_fields(&fields);
     if random.one_in(2) {
-        joint.face.rows = SECOND_FACE + random.between(1, 8);
+        joint.face.rows = SECOND_FACE + any_rows(random);
         joint.other.rows = random.between(0, 9);
     }
 }
@@ -225,5 +225,25 @@ mod tests {
             || work(&BUILT_IN, &any_two_faced_joint(&mut random, &BUILT_IN)).is_ok();
         let count = (0..2_000).filter(|_| is_worked()).count();
         assert!(count > 500, "{count}");
+    }
+
+    /// On the first face alone, on the second alone, on both.
+    #[test]
+    fn faces_with_no_rows_are_worked() {
+        let mut random = Random::new(9);
+        let mut counts = [0; 3];
+        for _ in 0..6_000 {
+            let joint = any_two_faced_joint(&mut random, &BUILT_IN);
+            if !joint.is_two_faced() || work(&BUILT_IN, &joint).is_err() {
+                continue;
+            }
+            match (joint.face.rows, joint.other.rows) {
+                (SECOND_FACE, 0) => counts[2] += 1,
+                (SECOND_FACE, _) => counts[0] += 1,
+                (_, 0) => counts[1] += 1,
+                _ => {}
+            }
+        }
+        assert!(counts.iter().all(|&count| count > 20), "{counts:?}");
     }
 }

@@ -270,6 +270,29 @@ mod tests {
     }
 
     #[test]
+    fn faces_with_no_rows() {
+        let no_rows = |joint: &str| joint.replacen('1', "0", 1).replacen(" 2400 ", " 0 ", 1);
+        let result = " 0 0 0 0 0 0 0 0 0 0 407706 2 407706 0 1 1 1";
+        let (alone, second) = (no_rows(JOINT_I), no_rows(SECOND_FACE_I));
+        assert_eq!(
+            answer(&format!("work {alone}")).unwrap(),
+            format!(" 0 0{result}")
+        );
+        let both = format!("16{} {second}", alone.strip_prefix('0').unwrap());
+        assert_eq!(
+            answer(&format!("work {both}")).unwrap(),
+            format!(" 0 0{result}{result} 1 0")
+        );
+        let file = format!("10{}", "00".repeat(49));
+        assert_eq!(
+            answer(&format!("read {file}ff")).unwrap(),
+            format!(" 0 50 16{}", zeros(65))
+        );
+        assert_eq!(answer("allocate 0").unwrap(), zeros(9));
+        assert_eq!(answer("allocate 0 4000000001").unwrap(), zeros(9));
+    }
+
+    #[test]
     fn a_second_face_that_is_not_there() {
         let result = format!("{RESULT_I}{}", zeros(19));
         let junk = " 4294967295".repeat(17) + " -1" + &" 4294967295".repeat(10);
