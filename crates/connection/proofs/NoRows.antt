@@ -1,6 +1,6 @@
 -- A face with no rows: no force is shared, and what is reckoned with the forces goes by the empty list. Assumes nothing.
 use Rattle.std.specs.Prelude.{Option}
-use mathlib.Core.Path.{◌≡◌, refl, ap, subst, ◌∙◌}
+use mathlib.Core.Path.{◌≡◌, refl, sym, ap, ◌∙◌}
 use mathlib.Core.Bool.{Bool, true, ◌||◌, or-true}
 use mathlib.Core.List.{List, [], ◌∷◌}
 use Prim.Native.Nat.{ℕ, ◌*◌, zero-le}
@@ -18,11 +18,12 @@ use Rattle.sharing.specs.Groups.{total}
 use Rattle.sharing.specs.Sharing.{moment, newton_metres}
 use Rattle.verdicts.specs.Bending.{carries}
 use Rattle.verdicts.specs.Bolts.{bolt_total, bolts_pass}
-use Rattle.verdicts.specs.Welds.{top_rows, flange_weld_by, flange_weld_passes}
+use Rattle.verdicts.specs.Welds.{top_rows, flange_weld_by, flange_weld_passes, web_weld_passes}
 use Rattle.outcome.specs.Outcome.{FaceOutcome}
-use Rattle.connection.specs.OneFace.{bolt_of, rows_of, levers_of, forces_of, moment_of}
+use Rattle.governing.specs.Cap.{newtons_of}
+use Rattle.connection.specs.OneFace.{bolt_of, rows_of, levers_of, governing_of, cap_of, forces_of, moment_of}
 use Rattle.connection.specs.Connection.{result_of, worked_connection}
-use Rattle.connection.specs.NoRows.{WithNoRows}
+use Rattle.connection.specs.NoRows.{result_of_no_rows, WithNoRows}
 use Rattle.connection.proofs.Answers.{not_refused, in_range_of}
 use Rattle.connection.proofs.Forces.{no_forces}
 
@@ -39,22 +40,29 @@ weld_carries face =
     ap (λ forces. flange_weld_by face (total forces)) (take-nil _)
     ∙ ap (λ b. leb (10 * face.beam.flange) (14 * face.welds.flange) || b) (le-leb _ _ (le_trans (min-le_right _ _) zero-le)) ∙ or-true _
 
-module _ (panel_counts : Bool) (column : Column) (bolt : BoltStrengths) (face : Face) where
-  of_result : rows_of face ≡ 0 → WithNoRows panel_counts column bolt face (result_of panel_counts column bolt face)
-  unfolding result_of forces_of eight_places newton_metres bolts_pass bolt_total
-  of_result none =
-      let empty : forces_of panel_counts column bolt face ≡ [] = no_forces _ _ none in
+module _ (panel_counts : Bool) (column : Column) (bolt : BoltStrengths) (face : Face) (none : rows_of face ≡ 0) where
+  empty : forces_of panel_counts column bolt face ≡ []
+  unfolding forces_of
+  empty = no_forces _ _ none
+
+  comes_to : result_of panel_counts column bolt face ≡ result_of_no_rows panel_counts column bolt face
+  unfolding result_of eight_places newton_metres bolts_pass bolt_total
+  comes_to =
       let z : moment_of face (forces_of panel_counts column bolt face) ≡ 0 = ap (moment_of face) empty ∙ no_moment (levers_of face) in
-      record {
-        forces = ap eight_places empty;
-        sum = ap total empty;
-        newton_metres = ap newton_metres z;
-        bending = ap (carries face.loads face.beam) z;
-        bolts =
-            ap (bolts_pass bolt column face.plate face.shear_rows face.loads.shear) empty
-            ∙ ap (leb face.loads.shear) (zero-add _);
-        flange_weld = ap (flange_weld_passes face) empty ∙ weld_carries face;
-        alone = λ other c. nil_from_length other (c.limits.rows ∙ none);
+      let bolts = ap (bolts_pass bolt column face.plate face.shear_rows face.loads.shear) empty ∙ ap (leb face.loads.shear) (zero-add _) in
+      let flange_weld = ap (flange_weld_passes face) empty ∙ weld_carries face in
+      λ i. record {
+        forces = eight_places (empty i);
+        sum = total (empty i);
+        newton_metres = newton_metres (z i);
+        cap = newtons_of (cap_of panel_counts column face);
+        check = governing_of panel_counts column face;
+        verdicts = record {
+          bending = carries face.loads face.beam (z i);
+          bolts = bolts i;
+          flange_weld = flange_weld i;
+          web_weld = web_weld_passes face;
+        };
       }
 
 -- Whatever has no rows and is not refused.
@@ -65,4 +73,8 @@ with_no_rows panel_counts column bolts area face none answer e taken =
     let inside = in_range_of panel_counts column bolts area face answer e taken in
     let bolt = bolt_of bolts area in
     let whole = (not_refused panel_counts column bolt face answer inside.1 taken).1 in
-    subst (λ (a : FaceOutcome). WithNoRows panel_counts column bolt face a.result) whole (of_result panel_counts column bolt face none)
+    let result : result_of panel_counts column bolt face ≡ answer.result = ap (λ a. a.result) whole in
+    record {
+      comes_to = sym result ∙ comes_to panel_counts column bolt face none;
+      alone = λ other c. nil_from_length other (c.limits.rows ∙ none);
+    }

@@ -5,20 +5,31 @@ use Rattle.joint.specs.Ranges.{row_counts}
 use Rattle.joint.specs.declared.Column.{Column}
 use Rattle.joint.specs.declared.Face.{Face}
 use Rattle.strength.specs.declared.BoltStrengths.{BoltStrengths}
+use Rattle.governing.specs.Cap.{newtons_of}
 use Rattle.verdicts.specs.Bending.{carries}
 use Rattle.verdicts.specs.Bolts.{idle_pair}
+use Rattle.verdicts.specs.Welds.{web_weld_passes}
 use Rattle.outcome.specs.declared.FaceResult.{FaceResult}
+use Rattle.connection.specs.OneFace.{governing_of, cap_of}
 use Rattle.connection.specs.Demand.{CompetesFor}
 
+-- no force and Z 0, so bending by N alone, bolts by the shear rows, and a flange weld that has nothing to carry; the rest as ever
+abbrev pub result_of_no_rows : (panel_counts : Bool) → Column → BoltStrengths → Face → FaceResult
+result_of_no_rows panel_counts column bolt face = record {
+  forces = replicate row_counts.high 0;
+  sum = 0;
+  newton_metres = 0;
+  cap = newtons_of (cap_of panel_counts column face);
+  check = governing_of panel_counts column face;
+  verdicts = record {
+    bending = carries face.loads face.beam 0;
+    bolts = leb face.loads.shear (face.shear_rows * idle_pair bolt column face.plate);
+    flange_weld = true;
+    web_weld = web_weld_passes face;
+  };
+}
+
 pub record WithNoRows (panel_counts : Bool) (column : Column) (bolt : BoltStrengths) (face : Face) (result : FaceResult) : Type 0 where
-  -- no place has a force, whatever the cap
-  pub forces : result.forces ≡ replicate row_counts.high 0
-  pub sum : result.sum ≡ 0
-  pub newton_metres : result.newton_metres ≡ 0
-  -- bending by N alone, and bolts by the shear rows
-  pub bending : result.verdicts.bending ≡ carries face.loads face.beam 0
-  pub bolts : result.verdicts.bolts ≡ leb face.loads.shear (face.shear_rows * idle_pair bolt column face.plate)
-  -- against force 0
-  pub flange_weld : result.verdicts.flange_weld ≡ true
+  pub comes_to : result ≡ result_of_no_rows panel_counts column bolt face
   -- the only list that competes with it is the empty one
   pub alone : (other : List ℕ) → CompetesFor panel_counts column bolt face result.forces other → other ≡ []
