@@ -13,7 +13,7 @@ use joint::Face;
 use spacing::Spacing;
 
 // The least pitch of the rows: how far a lever is below the one above it, 0 where one isn't below. It tells of every distance from 1 to
-// the greatest lever whether the levers fall by it. One row has no pitch, and answers the greatest lever.
+// the greatest lever whether the levers fall by it. One row or none has no pitch, and answers the greatest lever.
 #[tactic(auto, using(crate::proofs::Rows::all_pairs, crate::proofs::Rows::next_pair, crate::proofs::Rows::no_pair))]
 pub fn least_pitch(levers: &[u32]) -> u64
     ensures { (distance : ℕ) → Within (1 to most_lever) distance
