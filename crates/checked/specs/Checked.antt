@@ -392,19 +392,27 @@ unfolding no_rows_I joint_I_on
 refused_no_rows extended lever =
     let refusal = (worked built_in (joint_I_on 132 20 (no_rows_I 0 extended lever))).refusal in refusal.number ∷ refusal.field ∷ []
 
--- and what Allocate answers for no rows, handed no limit and one that is too large
 checked_no_rows_refused : Checked
-unfolding refused_no_rows allocate_answer
+unfolding refused_no_rows
 checked_no_rows_refused = record {
-  given = refused_no_rows 1 0 ++ refused_no_rows 0 1 ++ refused_no_rows 1 1 ++ allocate_answer 0 [] ++ allocate_answer 0 (4000000001 ∷ []);
-  stated = (10 ∷ 2 ∷ []) ++ (10 ∷ 31 ∷ []) ++ (10 ∷ 2 ∷ []) ++ replicate 9 0 ++ replicate 9 0;
+  given = refused_no_rows 1 0 ++ refused_no_rows 0 1 ++ refused_no_rows 1 1;
+  stated = (10 ∷ 2 ∷ []) ++ (10 ∷ 31 ∷ []) ++ (10 ∷ 2 ∷ []);
+}
+
+-- Allocate for no rows, handed no limit, and one that would be too large
+checked_no_rows_allocated : Checked
+unfolding allocate_answer
+checked_no_rows_allocated = record {
+  given = allocate_answer 0 [] ++ allocate_answer 0 (4000000001 ∷ []);
+  stated = replicate 9 0 ++ replicate 9 0;
 }
 
 unfoldable pub table : List Checked
 unfolding checked_A checked_B checked_C checked_A_raised checked_C_raised checked_D checked_E checked_F checked_G checked_H
     checked_I checked_I_pushed checked_I_file checked_I_both checked_I_panel checked_loading checked_I_own checked_I_apart
-    checked_I_thick checked_I_no_rows checked_no_rows_refused
+    checked_I_thick checked_I_no_rows checked_no_rows_refused checked_no_rows_allocated
 table =
     checked_A ∷ checked_B ∷ checked_C ∷ checked_A_raised ∷ checked_C_raised ∷ checked_D ∷ checked_E ∷ checked_F ∷ checked_G ∷ checked_H
     ∷ checked_I ∷ checked_I_pushed ∷ checked_I_file ∷ checked_I_both ∷ checked_I_panel ∷ checked_loading ∷ checked_I_own
-    ∷ checked_I_apart ∷ checked_I_thick ∷ checked_I_no_rows ∷ checked_no_rows_refused ∷ []
+    ∷ checked_I_apart ∷ checked_I_thick ∷ checked_I_no_rows ∷ checked_no_rows_refused
+    ∷ checked_no_rows_allocated ∷ []

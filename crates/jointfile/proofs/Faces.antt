@@ -32,9 +32,7 @@ module _ (test : Face → Bool) (joint : Joint) where
         ((and-eq-true_iff (test (first_face joint.face)) (cond (two_faced joint.face.rows) (test joint.other) true)).0 passes).1
 
 pub row_count : (rows : ℕ) → within row_counts rows ≡ true → Within row_counts rows
-row_count rows e =
-    let both = (and-eq-true_iff (leb 0 rows) (leb rows 8)).0 e in
-    record { low = zero-le; high = leb-true rows 8 both.1 }
+row_count rows e = record { low = zero-le; high = leb-true rows 8 ((and-eq-true_iff (leb 0 rows) (leb rows 8)).0 e).1 }
 
 -- the rows of a joint whose row counts are right
 module _ (joint : Joint) (right : (rows_check joint).1 ≡ true) where
