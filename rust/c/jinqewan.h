@@ -53,8 +53,8 @@ enum {
 #define JINQEWAN_FIELD(answer) (((answer) >> 8) & 255u)
 #define JINQEWAN_FACE(answer) (((answer) >> 16) & 255u)
 
-/* No sheet of so many bytes of input is longer, up to JINQEWAN_LONGEST_INPUT of them: it has a line for each 25 of them, and one for what
- * is left. */
+/* No sheet of so many bytes of input is longer, up to JINQEWAN_LONGEST_INPUT of them: it has at most a line for each 25 of them, and one
+ * for what is left. */
 #define JINQEWAN_LONGEST_SHEET(bytes) (((size_t)(bytes) + 24) / 25 * 285)
 
 /* The words of a result. Those of the second face stand JINQEWAN_SECOND_FACE places further on; they are 0 where there is none. */

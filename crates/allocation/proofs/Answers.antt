@@ -7,22 +7,19 @@ use native.Mathlib.Omega.{arith}
 use mathlib.Core.List.{List}
 use lib.ListN.{length, take, replicate}
 use lib.Seq.{take_at, length-take-le, get_or-take}
-use lib.Dec.{leb}
 use borrow.Author.Tests.{lt-leb, le-leb, leb-true}
 use Rattle.arithmetic.specs.Range.{within}
 use Rattle.arithmetic.proofs.Checks.{holds, fails, none_left, numbered, positive, numbered_holds}
 use Rattle.joint.specs.Ranges.{row_counts}
 use Rattle.joint.specs.Places.{eight_places}
+use Rattle.joint.proofs.Faces.{at_most_eight}
 use Rattle.sharing.specs.Groups.{Table, group_count, listed, most_limit}
 use Rattle.sharing.specs.Sharing.{shared}
 use Rattle.sharing.specs.Best.{Best}
 use Rattle.sharing.proofs.Theorems.{best}
 use Rattle.allocation.specs.Allocation.{Allocation, none_above, refused_allocation, allocate_refusals, allocated}
 use Rattle.allocation.specs.Steps.{Shareable}
-use Rattle.allocation.proofs.Bound.{both, each_within}
-
-at_most_eight : (n : ℕ) → within row_counts n ≡ true → n ≤ 8
-at_most_eight n rows = leb-true n 8 (both (leb 0 n) (leb n 8) rows).1
+use Rattle.allocation.proofs.Bound.{each_within}
 
 -- the places of the rows are the forces
 pub rows_kept : (n : ℕ) (limit : Table) → take n (eight_places (shared limit n)) ≡ shared limit n

@@ -386,12 +386,13 @@ checked_I_no_rows = record {
   stated = line_no_rows [] ++ line_no_rows (32 ∷ 80 ∷ []) ++ line_no_rows (32 ∷ 80 ∷ []);
 }
 
--- the refusal and the field: extended, with a lever, with both
+-- the refusal and the field
 refused_no_rows : (extended lever : ℕ) → List ℕ
 unfolding no_rows_I joint_I_on
 refused_no_rows extended lever =
     let refusal = (worked built_in (joint_I_on 132 20 (no_rows_I 0 extended lever))).refusal in refusal.number ∷ refusal.field ∷ []
 
+-- extended, with a lever, and both
 checked_no_rows_refused : Checked
 unfolding refused_no_rows
 checked_no_rows_refused = record {

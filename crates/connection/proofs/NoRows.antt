@@ -1,6 +1,6 @@
 -- A face with no rows: no force is shared, and what is reckoned with the forces goes by the empty list. Assumes nothing.
 use Rattle.std.specs.Prelude.{Option}
-use mathlib.Core.Path.{◌≡◌, refl, sym, ap, ◌∙◌}
+use mathlib.Core.Path.{◌≡◌, refl, sym, ap, subst, ◌∙◌}
 use mathlib.Core.Bool.{Bool, true, ◌||◌, or-true}
 use mathlib.Core.List.{List, [], ◌∷◌}
 use Prim.Native.Nat.{ℕ, ◌*◌, zero-le}
@@ -8,7 +8,9 @@ use native.Mathlib.Nat.{zero-add, le_trans, min-le_right}
 use Rattle.std.proofs.lemmas.List.{nil_from_length}
 use Rattle.std.proofs.Math.Seq.{take-nil}
 use lib.Dec.{leb}
+use lib.ListN.{length}
 use borrow.Author.Tests.{le-leb}
+use Rattle.joint.specs.Ranges.{row_counts}
 use Rattle.joint.specs.Places.{eight_places}
 use Rattle.joint.specs.declared.Bolts.{Bolts}
 use Rattle.joint.specs.declared.Column.{Column}
@@ -23,8 +25,10 @@ use Rattle.outcome.specs.Outcome.{FaceOutcome}
 use Rattle.governing.specs.Cap.{newtons_of}
 use Rattle.connection.specs.OneFace.{bolt_of, rows_of, levers_of, governing_of, cap_of, forces_of, moment_of}
 use Rattle.connection.specs.Connection.{result_of, worked_connection}
+use Rattle.connection.specs.Demand.{CompetesFor, programs_list}
 use Rattle.connection.specs.NoRows.{result_of_no_rows, WithNoRows}
 use Rattle.connection.proofs.Answers.{not_refused, in_range_of}
+use Rattle.connection.proofs.Best.{worked_demand}
 use Rattle.connection.proofs.Forces.{no_forces}
 
 -- of no forces Z is 0, whatever the levers
@@ -65,16 +69,24 @@ module _ (panel_counts : Bool) (column : Column) (bolt : BoltStrengths) (face : 
         };
       }
 
--- Whatever has no rows and is not refused.
+-- Any face with no rows that isn't refused. A face in the machine has eight levers.
 pub with_no_rows : (panel_counts : Bool) (column : Column) (bolts : Bolts) (area : Option ℕ) (face : Face) → rows_of face ≡ 0
+    → length face.levers ≡ row_counts.high
     → (answer : FaceOutcome) → worked_connection panel_counts column bolts area face ≡ answer → answer.number ≡ 0
     → WithNoRows panel_counts column (bolt_of bolts area) face answer.result
-with_no_rows panel_counts column bolts area face none answer e taken =
+with_no_rows panel_counts column bolts area face none eight answer e taken =
     let inside = in_range_of panel_counts column bolts area face answer e taken in
     let bolt = bolt_of bolts area in
     let whole = (not_refused panel_counts column bolt face answer inside.1 taken).1 in
     let result : result_of panel_counts column bolt face ≡ answer.result = ap (λ a. a.result) whole in
+    let list : programs_list face answer.result.forces ≡ [] = rw none refl in
+    let demand = worked_demand panel_counts column bolts area face eight answer e taken in
     record {
       comes_to = sym result ∙ comes_to panel_counts column bolt face none;
-      alone = λ other c. nil_from_length other (c.limits.rows ∙ none);
+      list = list;
+      z = no_moment (levers_of face);
+      alone = λ other. (
+        (λ c. nil_from_length other (c.limits.rows ∙ none)),
+        (λ is. subst (CompetesFor panel_counts column bolt face answer.result.forces) (list ∙ sym is) demand.competes),
+      );
     }

@@ -149,8 +149,8 @@ impl<'a> FaceAtWork<'a> {
         }
     }
 
-    // The forces of the rows, under the limits of all groups and the cap on them together, in the triangle or without. Where there are no
-    // rows the cap has no group to stand on.
+    // The forces of the rows, under the limits of all groups and the cap on them together, in the triangle or without. With no rows there
+    // is no group of all rows for the cap, and no force.
     fn row_forces(&self, cap: u64) -> [u64; 8]
         requires { Admissible self.now.column.now self.now.face.now }
         ensures value { result

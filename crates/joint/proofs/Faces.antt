@@ -1,12 +1,16 @@
--- What field 1 says of the rows: marked counts are 16 to 24, and others are as stored. Assumes nothing.
+-- What field 1 says of the rows: a face may have eight at most, marked counts are 16 to 24, and others are as stored. Assumes nothing.
 use mathlib.Core.Path.{◌≡◌, refl}
 use mathlib.Core.Bool.{Bool, true, false, and-eq-true_iff}
 use Prim.Native.Nat.{ℕ, ◌≤◌}
 use native.Mathlib.Omega.{arith}
 use borrow.Author.Tests.{leb-true}
 use lib.Dec.{leb}
-use Rattle.arithmetic.specs.Range.{Within}
+use Rattle.arithmetic.specs.Range.{Within, within}
+use Rattle.joint.specs.Ranges.{row_counts}
 use Rattle.joint.specs.Faces.{marked_counts, two_faced, first_rows}
+
+pub at_most_eight : (count : ℕ) → within row_counts count ≡ true → count ≤ row_counts.high
+at_most_eight count e = leb-true count 8 ((and-eq-true_iff (leb 0 count) (leb count 8)).0 e).1
 
 pub marked : (count : ℕ) → two_faced count ≡ true → Within marked_counts count
 unfolding two_faced

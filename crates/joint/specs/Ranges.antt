@@ -1,4 +1,4 @@
--- Rules 2.1 and 2.2: the range of each field, both ends included, in the order of the fields.
+-- Rules 2.1, 2.2 and 2.4: the range of each field, both ends included, in the order of the fields.
 -- Assumes nothing.
 use Rattle.std.specs.Prelude.{ℕ, cond, List, [], ◌∷◌, ltb, eqb}
 use Rattle.arithmetic.specs.Range.{Range, ◌to◌}

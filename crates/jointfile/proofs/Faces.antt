@@ -1,15 +1,14 @@
 -- A test of each face that a joint has: it passes where both faces do, and what it says of each; and of the test of the row counts, that
 -- there are few rows. By cases on the mark. Assumes nothing.
-use Prim.Native.Nat.{ℕ, ◌≤◌, zero-le}
+use Prim.Native.Nat.{◌≤◌}
 use mathlib.Core.Path.{◌≡◌, refl}
 use mathlib.Core.Bool.{Bool, true, false, cond, and-eq-true_iff}
-use borrow.Author.Tests.{leb-true}
-use lib.Dec.{leb}
-use Rattle.arithmetic.specs.Range.{within, Within}
+use Rattle.arithmetic.specs.Range.{within}
 use Rattle.joint.specs.Ranges.{row_counts}
 use Rattle.joint.specs.Faces.{two_faced, first_rows, first_face, on_faces}
 use Rattle.joint.specs.declared.Face.{Face}
 use Rattle.joint.specs.declared.Joint.{Joint}
+use Rattle.joint.proofs.Faces.{at_most_eight}
 use Rattle.jointfile.specs.Write.{rows_check}
 
 module _ (test : Face → Bool) (joint : Joint) where
@@ -31,9 +30,6 @@ module _ (test : Face → Bool) (joint : Joint) where
         rw two at
         ((and-eq-true_iff (test (first_face joint.face)) (cond (two_faced joint.face.rows) (test joint.other) true)).0 passes).1
 
-pub row_count : (rows : ℕ) → within row_counts rows ≡ true → Within row_counts rows
-row_count rows e = record { low = zero-le; high = leb-true rows 8 ((and-eq-true_iff (leb 0 rows) (leb rows 8)).0 e).1 }
-
 -- the rows of a joint whose row counts are right
 module _ (joint : Joint) (right : (rows_check joint).1 ≡ true) where
   pub first_rows_right : within row_counts (first_rows joint.face.rows) ≡ true
@@ -44,7 +40,7 @@ module _ (joint : Joint) (right : (rows_check joint).1 ≡ true) where
   second_rows_right = second_passes (λ face. within row_counts face.rows) joint right
 
   pub first_rows_few : first_rows joint.face.rows ≤ 8
-  first_rows_few = (row_count _ first_rows_right).high
+  first_rows_few = at_most_eight _ first_rows_right
 
   pub second_rows_few : two_faced joint.face.rows ≡ true → joint.other.rows ≤ 8
-  second_rows_few two = (row_count _ (second_rows_right two)).high
+  second_rows_few two = at_most_eight _ (second_rows_right two)

@@ -15,6 +15,7 @@ use Rattle.arithmetic.specs.Range.{within}
 use Rattle.arithmetic.proofs.Tests.{split}
 use Rattle.joint.specs.Ranges.{row_counts}
 use Rattle.joint.specs.Places.{eight_places}
+use Rattle.joint.proofs.Faces.{at_most_eight}
 use Rattle.numbers.specs.Run.{read_numbers, stored_all, all_zero}
 use Rattle.numbers.specs.Parse.{got, refused, and_then}
 use Rattle.numbers.specs.Number.{stored, read_number, Bytes}
@@ -25,7 +26,6 @@ use Rattle.fields.specs.Fields.{field}
 use Rattle.jointfile.specs.File.{Part, rows_by, read_others, read_part}
 use Rattle.jointfile.specs.Write.{part_of}
 use Rattle.jointfile.specs.Answers.{PartHeld}
-use Rattle.jointfile.proofs.Faces.{row_count}
 
 -- ---- numbers of 32 bits
 
@@ -89,7 +89,7 @@ reads_part first others [] levers left long right = absurd (omega arith)
 reads_part first others (count ∷ numbers) levers left long right =
     let rows = rows_by first count in
     let held = right.held in
-    let few : rows ≤ 8 = (row_count rows right.rows).high in
+    let few : rows ≤ 8 = at_most_eight rows right.rows in
     let whole : length numbers ≡ others = omega arith in
     let each : length (take rows levers) ≡ rows = length-take-le rows levers (omega (arith, held.eight)) in
     let fields = read_stored_all numbers (λ k. held.fields (suc k)) (stored_all (take rows levers) ++ left) in
@@ -120,7 +120,7 @@ module _ (first : Bool) (others count : ℕ) (numbers levers bytes bytes₁ byte
   unfolding part_of stored_all eight_places
   took =
       let rows = rows_by first count in
-      let few : rows ≤ 8 = (row_count rows right).high in
+      let few : rows ≤ 8 = at_most_eight rows right in
       let spares : List ℕ = replicate (8 - length levers) 0 in
       record {
         form =

@@ -45,8 +45,8 @@ pub const fn face(answer: u32) -> u32 {
     answer >> 16 & 255
 }
 
-/// No sheet of so many bytes is longer: it has a line for each 25 of them, and one for what is left. In an output that is shorter the lines
-/// are measured before they are printed.
+/// No sheet of so many bytes is longer: it has at most a line for each 25 of them, and one for what is left. In an output that is shorter
+/// the lines are measured before they are printed.
 pub const fn longest_sheet(input: usize) -> usize {
     (input + 24) / 25 * 285
 }
