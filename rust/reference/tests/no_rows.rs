@@ -1,9 +1,11 @@
 //! Faces with no rows, as of a pinned stub: on the only face of a joint, on either of two and on both.
 
+mod common;
+
+use common::{file_of, file_of_kind, lines, refusal};
 use reference::{
-    allocate, read, rest, sheet, work, write, AllocateRefusal, Check, Face, FaceResult, FileKind,
-    Joint, ReadRefusal, Trouble, Verdicts, WorkRefusal, WriteRefusal, BUILT_IN, LONGEST_FILE,
-    SECOND_FACE,
+    allocate, read, rest, work, write, AllocateRefusal, Check, Face, FaceResult, FileKind, Joint,
+    ReadRefusal, Verdicts, WriteRefusal, BUILT_IN, SECOND_FACE,
 };
 
 const KINDS: [FileKind; 2] = [FileKind::Old, FileKind::New];
@@ -59,39 +61,12 @@ fn result(joint: &Joint) -> FaceResult {
     worked.face
 }
 
-/// Number, field and face.
-fn refusal(joint: &Joint) -> (u32, u32, u32) {
-    let refusal = work(&BUILT_IN, joint).unwrap_err();
-    (refusal.number(), refusal.field(), refusal.face)
-}
-
 /// The field that refusal 10 tells; 0 where another is told, or none.
 fn field_of(joint: &Joint) -> u32 {
     match work(&BUILT_IN, joint) {
         Err(refusal) => refusal.field(),
         Ok(_) => 0,
     }
-}
-
-fn file_of(joint: &Joint) -> Vec<u8> {
-    let mut buffer = [0; LONGEST_FILE];
-    let length = write(joint, &mut buffer).unwrap();
-    buffer[..length].to_vec()
-}
-
-/// Where the two bytes of the distance to the column end stand, after 47 of the fields before.
-fn file_of_kind(joint: &Joint, kind: FileKind) -> Vec<u8> {
-    let mut file = file_of(joint);
-    if kind == FileKind::Old {
-        file.drain(47..49);
-    }
-    file
-}
-
-fn lines(input: &[u8]) -> String {
-    let mut out = Vec::new();
-    sheet(input, &mut out);
-    String::from_utf8(out).unwrap()
 }
 
 /// Each joint with a face or two of no rows.
@@ -313,29 +288,13 @@ fn work_refuses_by_13_and_then_15() {
 
 #[test]
 fn work_13_at_its_edges() {
-    // column m = 5(900 − tc) − 8×127, plate m = 5(900 − tb) − 480, e = 5(B − 900)
-    let tight = |joint: Joint| {
-        work(&BUILT_IN, &joint)
-            == Err(WorkRefusal {
-                trouble: Trouble::TooTight,
-                face: 0,
-            })
-    };
-    let plate_m = |gauge: u32| {
-        with(|joint| {
-            joint.face.layout.gauge = gauge;
-            joint.face.beam.web = 400;
-            joint.column.radius = 0;
-        })
-    };
-    assert!(!tight(plate_m(596)));
-    assert!(tight(plate_m(595)));
-    for (width, too_small) in [(1100, false), (1099, true)] {
-        assert_eq!(tight(with(|joint| joint.column.width = width)), too_small);
-        assert_eq!(
-            tight(with(|joint| joint.face.plate.width = width)),
-            too_small
-        );
+    // e = 5(B − 900); m is at its edge above
+    for change in [
+        (|joint, width| joint.column.width = width) as fn(&mut Joint, u32),
+        |joint, width| joint.face.plate.width = width,
+    ] {
+        assert!(work(&BUILT_IN, &with(|joint| change(joint, 1100))).is_ok());
+        assert_eq!(refusal(&with(|joint| change(joint, 1099))), (13, 0, 0));
     }
 }
 

@@ -1,8 +1,11 @@
 //! Joints with a beam on both faces: the panel, the cap without it, and each refusal of either face.
 
+mod common;
+
+use common::{file_of, file_of_kind, lines, refusal};
 use reference::{
-    read, rest, sheet, work, write, Check, Face, FaceResult, FileKind, Joint, ReadRefusal,
-    WriteRefusal, BUILT_IN, LONGEST_FILE, SECOND_FACE,
+    read, rest, work, write, Check, Face, FaceResult, FileKind, Joint, ReadRefusal, WriteRefusal,
+    BUILT_IN, LONGEST_FILE, SECOND_FACE,
 };
 
 const KINDS: [FileKind; 2] = [FileKind::Old, FileKind::New];
@@ -43,33 +46,6 @@ fn results(joint: &Joint) -> ([FaceResult; 2], bool) {
     let result = work(&BUILT_IN, joint).unwrap();
     let other = result.other.unwrap();
     ([result.face, other.face], other.panel_passes)
-}
-
-/// Number, field and face.
-fn refusal(joint: &Joint) -> (u32, u32, u32) {
-    let refusal = work(&BUILT_IN, joint).unwrap_err();
-    (refusal.number(), refusal.field(), refusal.face)
-}
-
-fn file_of(joint: &Joint) -> Vec<u8> {
-    let mut buffer = [0; LONGEST_FILE];
-    let length = write(joint, &mut buffer).unwrap();
-    buffer[..length].to_vec()
-}
-
-/// Joint I's z is the two bytes before the lever of two.
-fn file_of_kind(joint: &Joint, kind: FileKind) -> Vec<u8> {
-    let mut file = file_of(joint);
-    if kind == FileKind::Old {
-        file.drain(47..49);
-    }
-    file
-}
-
-fn lines(input: &[u8]) -> String {
-    let mut out = Vec::new();
-    sheet(input, &mut out);
-    String::from_utf8(out).unwrap()
 }
 
 #[test]
