@@ -1,5 +1,5 @@
 -- A face with no rows: no force is shared, and what is reckoned with the forces goes by the empty list. Assumes nothing.
-use Rattle.std.specs.Prelude.{Option}
+use Rattle.std.specs.Prelude.{Option, Result, Ok, Err, IfOk}
 use mathlib.Core.Path.{◌≡◌, refl, sym, ap, subst, ◌∙◌}
 use mathlib.Core.Bool.{Bool, true, ◌||◌, or-true}
 use mathlib.Core.List.{List, [], ◌∷◌}
@@ -21,14 +21,16 @@ use Rattle.sharing.specs.Sharing.{moment, newton_metres}
 use Rattle.verdicts.specs.Bending.{carries}
 use Rattle.verdicts.specs.Bolts.{bolt_total, bolts_pass}
 use Rattle.verdicts.specs.Welds.{top_rows, flange_weld_by, flange_weld_passes, web_weld_passes}
-use Rattle.outcome.specs.Outcome.{FaceOutcome}
+use Rattle.outcome.specs.Outcome.{face_meaning}
+use Rattle.outcome.specs.declared.FaceRefusal.{FaceRefusal}
+use Rattle.outcome.specs.declared.FaceResult.{FaceResult}
 use Rattle.governing.specs.Cap.{newtons_of}
 use Rattle.connection.specs.OneFace.{bolt_of, rows_of, levers_of, governing_of, cap_of, forces_of, moment_of}
 use Rattle.connection.specs.Connection.{result_of, worked_connection}
 use Rattle.connection.specs.Demand.{CompetesFor, programs_list}
 use Rattle.connection.specs.NoRows.{result_of_no_rows, WithNoRows}
 use Rattle.connection.proofs.Answers.{not_refused, in_range_of}
-use Rattle.connection.proofs.Best.{worked_demand}
+use Rattle.connection.proofs.Best.{demand_of}
 use Rattle.connection.proofs.Forces.{no_forces}
 
 -- of no forces Z is 0, whatever the levers
@@ -69,24 +71,25 @@ module _ (panel_counts : Bool) (column : Column) (bolt : BoltStrengths) (face : 
         };
       }
 
--- Any face with no rows that isn't refused. A face in the machine has eight levers.
+-- What the call answers for a face with no rows, where it isn't a refusal. A face in the machine has eight levers.
 pub with_no_rows : (panel_counts : Bool) (column : Column) (bolts : Bolts) (area : Option ℕ) (face : Face) → rows_of face ≡ 0
     → length face.levers ≡ row_counts.high
-    → (answer : FaceOutcome) → worked_connection panel_counts column bolts area face ≡ answer → answer.number ≡ 0
-    → WithNoRows panel_counts column (bolt_of bolts area) face answer.result
-with_no_rows panel_counts column bolts area face none eight answer e taken =
-    let inside = in_range_of panel_counts column bolts area face answer e taken in
+    → (answer : Result FaceResult FaceRefusal) → face_meaning answer ≡ worked_connection panel_counts column bolts area face
+    → IfOk answer (λ result. WithNoRows panel_counts column (bolt_of bolts area) face result)
+with_no_rows panel_counts column bolts area face none eight (Ok result) e =
     let bolt = bolt_of bolts area in
-    let whole = (not_refused panel_counts column bolt face answer inside.1 taken).1 in
-    let result : result_of panel_counts column bolt face ≡ answer.result = ap (λ a. a.result) whole in
-    let list : programs_list face answer.result.forces ≡ [] = rw none refl in
-    let demand = worked_demand panel_counts column bolts area face eight answer e taken in
+    let inside = in_range_of panel_counts column bolts area face _ (sym e) refl in
+    let whole = (not_refused panel_counts column bolt face _ inside.1 refl).1 in
+    let own : result_of panel_counts column bolt face ≡ result = ap (λ a. a.result) whole in
+    let list : programs_list face result.forces ≡ [] = rw none refl in
+    let demand = demand_of panel_counts column bolts area face eight (Ok result) e in
     record {
-      comes_to = sym result ∙ comes_to panel_counts column bolt face none;
+      comes_to = sym own ∙ comes_to panel_counts column bolt face none;
       list = list;
       z = no_moment (levers_of face);
       alone = λ other. (
         (λ c. nil_from_length other (c.limits.rows ∙ none)),
-        (λ is. subst (CompetesFor panel_counts column bolt face answer.result.forces) (list ∙ sym is) demand.competes),
+        (λ is. subst (CompetesFor panel_counts column bolt face result.forces) (list ∙ sym is) demand.competes),
       );
     }
+with_no_rows panel_counts column bolts area face none eight (Err refusal) e = tt

@@ -1,22 +1,19 @@
 -- What field 1 says of the rows: a face may have eight at most, marked counts are 16 to 24, and others are as stored. Assumes nothing.
 use mathlib.Core.Path.{◌≡◌, refl}
-use mathlib.Core.Bool.{Bool, true, false, and-eq-true_iff}
+use mathlib.Core.Bool.{Bool, true, false}
 use Prim.Native.Nat.{ℕ, ◌≤◌}
 use native.Mathlib.Omega.{arith}
-use borrow.Author.Tests.{leb-true}
-use lib.Dec.{leb}
 use Rattle.arithmetic.specs.Range.{Within, within}
+use Rattle.arithmetic.proofs.Bounds.{within_yes}
 use Rattle.joint.specs.Ranges.{row_counts}
 use Rattle.joint.specs.Faces.{marked_counts, two_faced, first_rows}
 
 pub at_most_eight : (count : ℕ) → within row_counts count ≡ true → count ≤ row_counts.high
-at_most_eight count e = leb-true count 8 ((and-eq-true_iff (leb 0 count) (leb count 8)).0 e).1
+at_most_eight count e = (within_yes row_counts count (rw e tt)).high
 
 pub marked : (count : ℕ) → two_faced count ≡ true → Within marked_counts count
 unfolding two_faced
-marked count e =
-    let both = (and-eq-true_iff (leb 16 count) (leb count 24)).0 e in
-    record { low = leb-true 16 count both.0; high = leb-true count 24 both.1 }
+marked count e = within_yes marked_counts count (rw e tt)
 
 pub rows_as_stored : (count : ℕ) → two_faced count ≡ false → first_rows count ≡ count
 unfolding first_rows

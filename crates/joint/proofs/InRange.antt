@@ -4,7 +4,7 @@ use mathlib.Core.Path.{◌≡◌, sym, ap, subst, ◌∙◌}
 use mathlib.Core.Bool.{Bool, true, false, cond}
 use mathlib.Core.List.{List, [], ◌∷◌}
 use Prim.Native.Nat.{ℕ, zero, suc, ◌+◌, ◌-◌, ◌≤◌, ◌<◌, zero-le}
-use native.Mathlib.Nat.{add-zero, add-suc, suc-add, zero-add, le_of_suc-le-suc, not-suc-le-zero}
+use native.Mathlib.Nat.{add-zero, add-suc, suc-add, zero-add, le_of_suc-le-suc, not-suc-le-zero, le_trans}
 use native.Mathlib.Decide.{dec_lt}
 use native.Mathlib.Omega.{arith}
 use borrow.Author.Tests.{lt-ltb}
@@ -15,7 +15,7 @@ use lib.Seq.{get_or-append-add}
 use mir.Facts.{and_yes}
 use Rattle.std.specs.Prelude.{Ok, Option}
 use Rattle.arithmetic.specs.Checks.{Check}
-use Rattle.arithmetic.specs.Range.{Within, within, ◌to◌}
+use Rattle.arithmetic.specs.Range.{Range, Within, within, ◌to◌}
 use Rattle.arithmetic.proofs.Checks.{all_hold}
 use Rattle.arithmetic.proofs.Bounds.{within_yes}
 use Rattle.joint.specs.Ranges.{row_counts, flags, depths, widths, flanges, webs, radii, clears, plate_widths, thicknesses}
@@ -118,27 +118,28 @@ module _ (column : Column) (bolts : Bolts) (area : Option ℕ) (face : Face)
         };
       }
 
--- what a range that goes by another field says where that field is known
+-- a number in one of two ranges is at most what neither goes above
+high_of_either : (test : Bool) (a b : Range) {x most : ℕ} → a.high ≤ most → b.high ≤ most → Within (cond test a b) x → x ≤ most
+high_of_either true a b first second w = le_trans w.high first
+high_of_either false a b first second w = le_trans w.high second
+
+-- what a range that goes by another field says, whatever that field is or where it is known
 module _ (face : Face) (r : FaceInRange face) where
   -- field 2 is 0 or 1, whatever the rows
   pub extended_most : face.extended ≤ 1
-  extended_most = high (eqb face.rows 0) r.extended
-    where
-      high : (none : Bool) {x : ℕ} → Within (cond none (0 to 0) (0 to 1)) x → x ≤ 1
-      high true w = omega (arith, w.high)
-      high false w = w.high
+  extended_most = high_of_either (eqb face.rows 0) (0 to 0) (0 to 1) (omega arith) (omega arith) r.extended
+
+  -- and no edge distance is above that of an extended plate
+  pub edge_most : face.layout.edge ≤ (edges 1).high
+  edge_most = high_of_either (eqb face.extended 0) (edges 0) (edges 1) (omega arith) (omega arith) r.layout.edge
 
   -- no lever is above the greatest, and places past the last lever are 0
   pub lever_most : (row : ℕ) → get_or face.levers row 0 ≤ most_lever
   lever_most row =
       elim (dec_lt row (length face.levers)) [
-        | yes h ↦ high (ltb row face.rows) (r.lever row h)
+        | yes h ↦ high_of_either (ltb row face.rows) (1 to most_lever) (0 to 0) (omega arith) (omega arith) (r.lever row h)
         | no h ↦ rw (get_or-eq_default face.levers 0 {n = row} (omega arith)) zero-le
       ]
-    where
-      high : (used : Bool) {x : ℕ} → Within (cond used (1 to most_lever) (0 to 0)) x → x ≤ most_lever
-      high true w = w.high
-      high false w = omega (arith, w.high)
 
   pub row_lever : (row : ℕ) → row < face.rows → row < length face.levers → Within (1 to most_lever) (get_or face.levers row 0)
   row_lever row used h = rw (lt-ltb row face.rows used) at (r.lever row h)

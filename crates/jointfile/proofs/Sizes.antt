@@ -20,7 +20,7 @@ unfolding part_of
 part_size fields levers rows =
     omega (arith, length-append (stored_all fields) (stored_all (take rows levers)), stored_all_long fields)
 
-module _ (bytes : List ℕ) (joint : Joint) (left : List ℕ) (took : Took New bytes joint left) where
+module _ (joint : Joint) where
   first_size : field_count ≤ length (first_part New joint)
   unfolding fields_of
   first_size = part_size (first_fields joint) joint.face.levers (first_rows joint.face.rows)
@@ -29,12 +29,14 @@ module _ (bytes : List ℕ) (joint : Joint) (left : List ℕ) (took : Took New b
   unfolding fields_of own_of
   second_size = part_size (second_fields joint) joint.other.levers joint.other.rows
 
+-- so many bytes of a joint and those that are left after it were there to read
+module _ (bytes : List ℕ) (joint : Joint) (left : List ℕ) (took : Took New bytes joint left) where
   pub file_size : length left + field_count ≤ length bytes
   unfolding file
   file_size =
       let second = cond (two_faced joint.face.rows) (second_part joint) [] in
       rw (← took.form)
-      (omega (arith, first_size, length-append (first_part New joint ++ second) left, length-append (first_part New joint) second))
+      (omega (arith, first_size joint, length-append (first_part New joint ++ second) left, length-append (first_part New joint) second))
 
   -- with a second face
   pub two_faced_size : two_faced joint.face.rows ≡ true → length left + least_two_faced ≤ length bytes
@@ -43,8 +45,8 @@ module _ (bytes : List ℕ) (joint : Joint) (left : List ℕ) (took : Took New b
       rw (← took.form, two)
       (omega (
         arith,
-        first_size,
-        second_size,
+        first_size joint,
+        second_size joint,
         length-append (first_part New joint ++ second_part joint) left,
         length-append (first_part New joint) (second_part joint),
       ))

@@ -1,20 +1,17 @@
 -- How large a face's figures are: from the fields' ranges and refusal 13, figure by figure as they are put together.
 -- Assumes nothing.
 use mathlib.Core.Path.{◌≡◌, refl}
-use mathlib.Core.Bool.{Bool, true, false, cond}
 use Prim.Native.Nat.{ℕ, zero, suc, ◌*◌, ◌≤◌, ◌<◌}
 use native.Mathlib.Nat.{le_refl, le_trans, le-suc_iff, min-le_left}
 use mathlib.Core.Logic.{⊎_elim}
 use native.Mathlib.Omega.{arith}
-use lib.Dec.{eqb}
 use lib.ListN.{length, get_or, take}
 use lib.Seq.{get_or-take}
 use Rattle.arithmetic.specs.Range.{Within, ◌to◌}
 use Rattle.arithmetic.proofs.Bounds.{exactly, ◌⊗◌, ◌⊘◌, loosen}
-use Rattle.joint.specs.Ranges.{edges}
 use Rattle.joint.specs.declared.Column.{Column}
 use Rattle.joint.specs.declared.Face.{Face}
-use Rattle.joint.proofs.InRange.{extended_most, lever_most}
+use Rattle.joint.proofs.InRange.{extended_most, edge_most, lever_most}
 use Rattle.strength.specs.Steel.{steel_strengths}
 use Rattle.strength.specs.InRange.{most_thickness, most_pair_tension, SteelInRange}
 use Rattle.strength.specs.declared.SteelStrengths.{SteelStrengths}
@@ -126,13 +123,6 @@ module _ (column : Column) (face : Face) (a : Admissible column face) where
 
 -- The extension row's figures, where there is one.
 module _ (face : Face) (mx e yp W : ℕ) (x : ExtensionFigures face mx e yp W) where
-  pub edge_field_le : face.layout.edge ≤ (edges 1).high
-  edge_field_le = high (eqb face.extended 0) x.face.layout.edge
-    where
-      high : (flush : Bool) {ex : ℕ} → Within (cond flush (edges 0) (edges 1)) ex → ex ≤ (edges 1).high
-      high true w = omega (arith, w.high)
-      high false w = w.high
-
   module _ (extended : face.extended ≡ 0 → ⊥) where
     distance_range : Within extension_distances mx
     distance_range =
@@ -145,7 +135,7 @@ module _ (face : Face) (mx e yp W : ℕ) (x : ExtensionFigures face mx e yp W) w
     extension_parts =
         record {
           distance = distance_range;
-          edge_most = omega (arith, edge_field_le);
+          edge_most = omega (arith, edge_most face x.face);
           thickness = loosen (0 to most_thickness) x.face.plate.thickness tt;
           strength = rw x.strength (steel_range _ _ x.face.plate.grade (omega (arith, x.face.plate.thickness.high)));
           pair = x.pair;

@@ -2,13 +2,11 @@
 
 mod common;
 
-use common::{file_of, file_of_kind, lines, refusal};
+use common::{assert_read_back, file_of, file_of_kind, lines, refusal, KINDS};
 use reference::{
-    allocate, read, rest, work, write, AllocateRefusal, Check, Face, FaceResult, FileKind, Joint,
+    allocate, read, work, write, AllocateRefusal, Check, Face, FaceResult, FileKind, Joint,
     ReadRefusal, Verdicts, WriteRefusal, BUILT_IN, SECOND_FACE,
 };
-
-const KINDS: [FileKind; 2] = [FileKind::Old, FileKind::New];
 
 const WORKED: &str = "0 0 0 407706 K F P P P";
 
@@ -378,16 +376,7 @@ fn row_counts_about_those_of_no_rows() {
 #[test]
 fn files_of_both_kinds_are_read_back() {
     for joint in joints() {
-        for kind in KINDS {
-            let file = file_of_kind(&joint, kind);
-            let followed = [&file[..], &[1, 2]].concat();
-            assert_eq!(read(&followed, kind), Ok((joint, &[1, 2][..])));
-            assert_eq!(rest(&followed, kind), [1, 2]);
-            for cut in 0..file.len() {
-                assert_eq!(read(&file[..cut], kind), Err(ReadRefusal::BytesEnd));
-                assert!(rest(&file[..cut], kind).is_empty());
-            }
-        }
+        assert_read_back(&joint);
     }
 }
 

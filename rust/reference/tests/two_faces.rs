@@ -2,13 +2,11 @@
 
 mod common;
 
-use common::{file_of, file_of_kind, lines, refusal};
+use common::{assert_read_back, file_of, file_of_kind, lines, refusal, KINDS};
 use reference::{
-    read, rest, work, write, Check, Face, FaceResult, FileKind, Joint, ReadRefusal, WriteRefusal,
+    read, work, write, Check, Face, FaceResult, FileKind, Joint, ReadRefusal, WriteRefusal,
     BUILT_IN, LONGEST_FILE, SECOND_FACE,
 };
-
-const KINDS: [FileKind; 2] = [FileKind::Old, FileKind::New];
 
 /// The checked joint I on both faces.
 fn joint() -> Joint {
@@ -197,16 +195,7 @@ fn no_second_face_is_looked_at_in_a_joint_with_one() {
 
 #[test]
 fn files_of_both_kinds_are_read_back() {
-    for kind in KINDS {
-        let file = file_of_kind(&joint(), kind);
-        let followed = [&file[..], &[1, 2]].concat();
-        assert_eq!(read(&followed, kind), Ok((joint(), &[1, 2][..])));
-        assert_eq!(rest(&followed, kind), [1, 2]);
-        for cut in 0..file.len() {
-            assert_eq!(read(&file[..cut], kind), Err(ReadRefusal::BytesEnd));
-            assert!(rest(&file[..cut], kind).is_empty());
-        }
-    }
+    assert_read_back(&joint());
 }
 
 /// The longest two-faced file, and the shortest with a row on each face.
