@@ -1,8 +1,9 @@
 -- Bounds on sums, products and quotients, put together as the figure itself is: where x is within one range and y within another,
 -- `x ⊗ y` bounds their product from both sides. `fits` then shows that a figure fits its width. Assumes nothing.
 use mathlib.Core.Path.{◌∙◌, sym}
-use Prim.Native.Nat.{ℕ, zero, suc, ◌+◌, ◌*◌, ◌/◌, ◌^◌, ◌≤◌, zero-le}
-use native.Mathlib.Nat.{le_refl, le_trans, le_of_eq, zero-lt-suc, mul-le-mul, add-le-add, div-zero, div-mul-le_self, le-div_iff_mul-le}
+use Prim.Native.Nat.{ℕ, zero, suc, ◌+◌, ◌*◌, ◌/◌, ◌^◌, ◌≤◌, ◌<◌, zero-le}
+use native.Mathlib.Nat.{le_refl, le_trans, le_of_eq, zero-lt-suc, mul-le-mul, mul-le-mul_right, le_of_mul-le-mul_right, mul_right_comm}
+use native.Mathlib.Nat.{add-le-add, div-zero, div-mul-le_self, le-div_iff_mul-le}
 use mathlib.Core.Bool.{Bool, true, false, cond, ◌&&◌}
 use lib.Dec.{T, leb, ltb, leb→le}
 use mir.Syntax.{Width}
@@ -26,6 +27,12 @@ p ⊕ q = record { low = add-le-add p.low q.low; high = add-le-add p.high q.high
 pub div_mono : {a b : ℕ} (k : ℕ) → a ≤ b → a / k ≤ b / k
 div_mono {a} {b} zero h = le_of_eq (div-zero a ∙ sym (div-zero b))
 div_mono {a} (suc k) h = (le-div_iff_mul-le (zero-lt-suc k)).1 (le_trans (div-mul-le_self a (suc k)) h)
+
+-- of two fractions the one with the lesser cross product, rounded down, is at most the other
+pub lesser_quotient : (a b c d : ℕ) → 0 < b → 0 < d → a * d ≤ c * b → a / b ≤ c / d
+lesser_quotient a b c d pb pd cross =
+    let up : a / b * d * b ≤ c * b = le_trans (rw (mul_right_comm (a / b) d b) (mul-le-mul_right d (div-mul-le_self a b))) cross in
+    (le-div_iff_mul-le pd).1 (le_of_mul-le-mul_right up pb)
 
 -- a quotient by a number that is written out
 pub ◌⊘◌ : {r : Range} {x : ℕ} → Within r x → (k : ℕ) → Within (r.low / k to r.high / k) (x / k)

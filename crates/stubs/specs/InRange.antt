@@ -1,6 +1,7 @@
--- How large the figures of a T-stub and a web are that the code is called with: each bound by its name, and what each function asks.
+-- How large the figures of a T-stub and a web are that the code is called with, and how a stub's go together: each bound by its name, and
+-- what each function asks.
 -- Assumes nothing.
-use Rattle.std.specs.Prelude.{ℕ, ◌+◌, ◌*◌, ◌/◌, ◌≤◌}
+use Rattle.std.specs.Prelude.{◌≡◌, ℕ, ◌+◌, ◌*◌, ◌/◌, ◌^◌, ◌≤◌, ◌<◌}
 use Rattle.arithmetic.specs.Range.{Range, Within, ◌to◌}
 use Rattle.joint.specs.Ranges.{row_counts, flanges, webs, plate_widths, gauges, edges, alphas, most_lever}
 use Rattle.spacing.specs.Spacing.{least_distance, least_edge}
@@ -34,6 +35,10 @@ most_pattern = alphas.high * bolt_distances.high / 100
 -- and no effective length of a group, which has the rise as well
 abbrev pub most_length : ℕ
 most_length = most_pattern + 20 * rises.high
+
+-- no 200n'Wm of the column flange or the plate is above this: n' is at most 5m÷4
+abbrev pub most_prying_moment : ℕ
+most_prying_moment = 200 * (5 * bolt_distances.high / 4) * most_pair_tension * bolt_distances.high
 
 -- no 173g is above this, and no web's thickness times its strength
 abbrev pub most_web_length : ℕ
@@ -76,6 +81,16 @@ pub record StubWithin (stub : Stub) : Type 0 where
   pub yielding : Within (100 * extension_distances.low to 100 * extension_distances.high) stub.yielding
   pub prying : Within (0 to 200 * edge_distances.high * most_pair_tension) stub.prying
   pub breaking : Within (200 * extension_distances.low to 200 * (extension_distances.high + edge_distances.high)) stub.breaking
+  pub reach : Within (extension_distances.low to extension_distances.high + 2 * edge_distances.high) stub.reach
+  pub prying_moment : Within (0 to 200 * edge_distances.high * most_pair_tension * extension_distances.high) stub.prying_moment
+  -- 200(m + n') is 100m and 100(m + 2n'), and 100 times 200n'Wm is 200n'W times 100m
+  pub breaking_is : stub.breaking ≡ stub.yielding + 100 * stub.reach
+  pub prying_moment_is : 100 * stub.prying_moment ≡ stub.prying * stub.yielding
+
+-- of the column flange or the plate, on which groups of up to eight rows pull
+pub record GroupStubWithin (stub : Stub) : Type 0 where
+  pub figures : StubWithin stub
+  pub prying_moment_most : Within (0 to most_prying_moment) stub.prying_moment
 
 pub record LengthsWithin (lengths : Lengths) : Type 0 where
   pub circular : Within (0 to most_pattern) lengths.circular
@@ -87,3 +102,5 @@ pub record BendingParts (s : Stub) (W k L : ℕ) : Type 0 where
   pub pair : Within (0 to most_pair_tension) W
   pub rows : Within group_rows k
   pub length_most : Within (0 to most_length) L
+  -- eight rows with an m as great as the extension row's would not fit; that row is always alone
+  pub prying_moment_fits : k * s.prying_moment < 2 ^ 64

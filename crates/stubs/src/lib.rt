@@ -1,5 +1,5 @@
 // Bending of T-stubs and tension in webs (rules 4.2 to 4.5, 4.7, 4.9 and 4.10), from figures that are the same for every group. Lengths are
-// in hundredths of a millimetre. The crate `tension` calls these for figures that it shows to be small enough.
+// in hundredths of a millimetre. The crate `tension` calls these for figures that it shows to be small enough, and a stub's to go together.
 #![tactic(auto)]
 
 ghost use Rattle.std.specs.Prelude.{◌≡◌, ◌*◌, ◌/◌, min};
@@ -20,6 +20,10 @@ pub struct Stub {
     pub prying: u64,
     // 200(m + n')
     pub breaking: u64,
+    // m + 2n'
+    pub reach: u64,
+    // 200n'Wm: of k rows mode 1 is at most mode 2 where L×t²y times the reach is at most k times this
+    pub prying_moment: u64,
 }
 
 // The yield-line lengths of one row.
@@ -39,24 +43,31 @@ impl Stub {
     {
         let effective = edge.min(5 * m / 4);
         let t = u64::from(thickness);
+        let prying = 200 * effective * pair;
         Stub {
             flexure: t * t * strength,
             yielding: 100 * m,
-            prying: 200 * effective * pair,
+            prying,
             breaking: 200 * (m + effective),
+            reach: m + 2 * effective,
+            prying_moment: prying * m,
         }
     }
 
-    // The least of the three modes, for some rows and an effective length.
+    // The least of the three modes, for some rows and an effective length. Of modes 1 and 2, told apart by their cross products, the lesser
+    // alone is divided.
     #[tactic(auto, unfolding(crate::specs::Worked::bending_by))]
     pub fn bending(self, pair: u64, rows: u64, length: u64) -> u64
         requires { BendingParts self pair rows length }
         ensures { result ≡ bending_by self pair rows length }
     {
         let flexure = length * self.flexure;
-        let mode1 = flexure / self.yielding;
-        let mode2 = (flexure + rows * self.prying) / self.breaking;
-        mode1.min(mode2).min(rows * pair)
+        let (moment, distance) = if flexure * self.reach <= rows * self.prying_moment {
+            (flexure, self.yielding)
+        } else {
+            (flexure + rows * self.prying, self.breaking)
+        };
+        (moment / distance).min(rows * pair)
     }
 }
 

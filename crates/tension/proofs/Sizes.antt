@@ -8,18 +8,18 @@ use native.Mathlib.Omega.{arith}
 use lib.ListN.{length, get_or, take}
 use lib.Seq.{get_or-take}
 use Rattle.arithmetic.specs.Range.{Within, ◌to◌}
-use Rattle.arithmetic.proofs.Bounds.{exactly, ◌⊗◌, ◌⊘◌, loosen}
+use Rattle.arithmetic.proofs.Bounds.{exactly, at_most, ◌⊗◌, ◌⊘◌, loosen}
 use Rattle.joint.specs.declared.Column.{Column}
 use Rattle.joint.specs.declared.Face.{Face}
 use Rattle.joint.proofs.InRange.{extended_most, edge_most, lever_most}
-use Rattle.strength.specs.Steel.{steel_strengths}
+use Rattle.strength.specs.Steel.{steel_strength, steel_strengths}
 use Rattle.strength.specs.InRange.{most_thickness, most_pair_tension, SteelInRange}
 use Rattle.strength.specs.declared.SteelStrengths.{SteelStrengths}
 use Rattle.strength.proofs.Ranges.{steel_range, steel_in_range}
 use Rattle.spacing.specs.Spacing.{spacing_of}
 use Rattle.spacing.specs.declared.Spacing.{Spacing}
 use Rattle.stubs.specs.InRange.{bolt_distances, extension_distances, edge_distances, most_pattern, most_web_length, most_web, StubParts}
-use Rattle.stubs.proofs.Sizes.{stub_within, lengths_within}
+use Rattle.stubs.proofs.Sizes.{group_stub_within, lengths_within}
 use Rattle.tension.specs.Dimensions.{dimensions_of}
 use Rattle.tension.specs.InRange.{DimensionsWithin}
 use Rattle.tension.specs.Admissible.{Admissible, FiguresGiven, ExtensionFigures, Levers}
@@ -109,15 +109,17 @@ module _ (column : Column) (face : Face) (a : Admissible column face) where
       = record { distances = refl; strengths = refl; pair = pair } in
       let s = own_sizes in
       let both = le_trans (min-le_left _ _) s.column_edge.high in
+      let web : Within (0 to most_web) (column.web * steel_strength column.grade column.flange)
+      = loosen (0 to most_web) (a.column.web ⊗ s.strengths.column) tt in
       record {
-        column = stub_within _ _ _ _ _ (column_parts _ _ _ own _ both);
-        plate = stub_within _ _ _ _ _ (plate_parts _ _ _ own _ both);
+        column = group_stub_within _ _ _ _ _ s.column (column_parts _ _ _ own _ both);
+        plate = group_stub_within _ _ _ _ _ s.plate (plate_parts _ _ _ own _ both);
         column_lengths = lengths_within _ _ s.column s.column_edge;
         plate_lengths = lengths_within _ _ s.plate s.plate_edge;
         near_flange = loosen (0 to most_pattern) (a.face.layout.alpha ⊗ s.plate ⊘ 100) tt;
         web_length = loosen (0 to most_web_length) (exactly 173 ⊗ a.face.layout.gauge) tt;
-        column_web = loosen (0 to most_web) (a.column.web ⊗ s.strengths.column) tt;
-        beam_web = loosen (0 to most_web) (a.face.beam.web ⊗ s.strengths.beam) tt;
+        column_web = web;
+        lesser_web = at_most (le_trans (min-le_left _ _) web.high);
         pair = pair;
       }
 

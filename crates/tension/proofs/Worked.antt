@@ -1,5 +1,5 @@
--- A group's limit from the figures worked once is the rules' limit: each product is theirs in another order, and the
--- limits that apply are counted in the order of the rules. Assumes nothing.
+-- A group's limit from the figures worked once is the rules' limit: each product is theirs in another order, of two webs the lesser stands
+-- for both, and the limits that apply are counted in the order of the rules. Assumes nothing.
 use mathlib.Core.Path.{◌≡◌, refl, ap, ◌∙◌}
 use mathlib.Core.Bool.{Bool, true, false, cond}
 use Prim.Native.Nat.{ℕ, suc, ◌+◌, ◌-◌, ◌*◌, ◌/◌, ◌≤◌, ◌<◌, min}
@@ -20,9 +20,9 @@ use Rattle.strength.specs.declared.SteelStrengths.{SteelStrengths}
 use Rattle.spacing.specs.Spacing.{rise}
 use Rattle.spacing.specs.declared.Spacing.{Spacing}
 use Rattle.stubs.specs.Bending.{least_of, extension_length, bending}
-use Rattle.stubs.specs.Worked.{stub_of, length_by, bending_by}
+use Rattle.stubs.specs.Worked.{stub_of, length_by, bending_by, web_by}
 use Rattle.stubs.specs.declared.Stub.{Stub}
-use Rattle.stubs.proofs.Same.{bending-worked, web_worked, length-worked}
+use Rattle.stubs.proofs.Same.{bending-worked, web_worked, lesser_web, length-worked}
 use Rattle.tension.specs.Limits.{
   rows_in,
   column_flange_bending,
@@ -52,6 +52,12 @@ in_order true false true flange extension plate column beam = refl
 in_order true false false flange extension plate column beam = refl
 in_order false alone true flange extension plate column beam = refl
 in_order false alone false flange extension plate column beam = refl
+
+-- the limit by the lesser web is the limit by each web in turn
+webs_counted : (below : Bool) (limit web_length s column beam : ℕ) → min limit (web_by web_length s (cond below (min column beam) column))
+    ≡ (let web = min limit (web_by web_length s column) in cond below (min web (web_by web_length s beam)) web)
+webs_counted true limit web_length s column beam = omega (arith, lesser_web web_length s column beam)
+webs_counted false limit web_length s column beam = refl
 
 -- above the first row under the flange the plate is extended
 extension_counts : (extended i x : ℕ) (above : Bool) → ltb i extended ≡ above → (alone below : Bool) (flange plate column beam : ℕ)
@@ -86,7 +92,8 @@ module _ (column : Column) (face : Face) (W i j : ℕ) where
       let alone = eqb (rows_in i j) 1 in
       let below = ltb face.extended i in
       let web = web_worked face.layout.gauge (rise face i j) in
-      (λ t. counted above alone below (column_worked t) d.extension_limit (plate-worked t)
+      webs_counted below _ d.web_length (rise face i j) _ _
+      ∙ (λ t. counted above alone below (column_worked t) d.extension_limit (plate-worked t)
       (web column.web (steel_strength column.grade column.flange) t)
       (web face.beam.web (steel_strength face.beam.grade face.beam.flange) t))
       ∙ extension_counts face.extended i (extension_bending face W) above refl alone below _ _ _ _
@@ -119,7 +126,7 @@ module _ (face : Face) (mx e yp W : ℕ) (x : ExtensionFigures face mx e yp W) w
 module _ (d : Dimensions) (i k s : ℕ) where
   webs_le : (limit : ℕ) → webs_by d i s limit ≤ limit
   unfolding webs_by
-  webs_le limit = cond_le (ltb d.first i) _ _ limit (le_trans (min-le_left _ _) (min-le_left _ _)) (min-le_left _ _)
+  webs_le limit = min-le_left _ _
 
   plate_le : (limit : ℕ) → plate_by d i k s limit ≤ limit
   unfolding plate_by

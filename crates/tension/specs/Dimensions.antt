@@ -1,5 +1,6 @@
 -- What of a face's group limits is the same for every group, worked once, and a group's limit from it.
--- Each figure is a factor of the rules' (`Limits`); proofs/Worked.antt has the law that the limit comes out as they say.
+-- Each figure is a factor of the rules' (`Limits`), the lesser of two, or tells modes 1 and 2 apart; proofs/Worked.antt has the law that the
+-- limit comes out as they say.
 -- Assumes nothing.
 use Rattle.std.specs.Prelude.{ℕ, ◌-◌, ◌*◌, ◌/◌, min, cond, List, ltb, eqb, get_or}
 use Rattle.joint.specs.declared.Column.{Column}
@@ -31,7 +32,7 @@ dimensions_of column face W =
       extension_limit = cond (eqb face.extended 0) 0 (extension_bending face W);
       web_length = 173 * g;
       column_web = column.web * yc;
-      beam_web = face.beam.web * yb;
+      lesser_web = min (column.web * yc) (face.beam.web * yb);
       pair = W;
       first = face.extended;
     }
@@ -44,6 +45,10 @@ column_by d k s =
 abbrev pub plate_side_by : Dimensions → (i : ℕ) → ℕ
 plate_side_by d i = cond (eqb i d.first) d.near_flange d.plate_lengths.side
 
+-- the web of a group that begins there: the lesser of two where the beam's limits too
+abbrev pub web_for : Dimensions → (i : ℕ) → ℕ
+web_for d i = cond (ltb d.first i) d.lesser_web d.column_web
+
 -- a limit with the plate's, where there is one
 unfoldable pub plate_by : Dimensions → (i k s limit : ℕ) → ℕ
 plate_by d i k s limit =
@@ -53,9 +58,7 @@ plate_by d i k s limit =
 
 -- and with the webs'
 unfoldable pub webs_by : Dimensions → (i s limit : ℕ) → ℕ
-webs_by d i s limit =
-    let web = min limit (web_by d.web_length s d.column_web) in
-    cond (ltb d.first i) (min web (web_by d.web_length s d.beam_web)) web
+webs_by d i s limit = min limit (web_by d.web_length s (web_for d i))
 
 -- the limit of the group of k rows from row i on, whose rise is s
 unfoldable pub limit_by : Dimensions → (i k s : ℕ) → ℕ

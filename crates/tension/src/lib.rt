@@ -7,7 +7,7 @@ ghost use Rattle.std.specs.Prelude.{◌≡◌, ℕ, ◌+◌, ◌-◌, ◌<◌, l
 ghost use Rattle.tension.specs.Limits.{extension_bending, group_limit};
 ghost use Rattle.tension.specs.Admissible.{Admissible, FiguresGiven, LimitsAsked, ExtensionFigures};
 ghost use Rattle.tension.specs.Admissible.{FillAsked, RowAsked, FilledFrom, TableFilled};
-ghost use Rattle.tension.specs.Dimensions.{column_by, plate_side_by, plate_by, webs_by, limit_by, limits_by, dimensions_of};
+ghost use Rattle.tension.specs.Dimensions.{column_by, plate_side_by, plate_by, web_for, webs_by, limit_by, limits_by, dimensions_of};
 ghost use Rattle.tension.specs.InRange.{GroupInRange};
 
 use joint::{Column, Face};
@@ -28,9 +28,9 @@ pub struct Dimensions {
     pub extension_limit: u64,
     // 173g: the length of web that a row alone pulls on
     pub web_length: u64,
-    // tc×yc and tb×yb
+    // tc×yc, and the lesser of it and tb×yb
     pub column_web: u64,
-    pub beam_web: u64,
+    pub lesser_web: u64,
     // W
     pub pair: u64,
     // the first row under the beam flange
@@ -50,6 +50,8 @@ impl Dimensions {
         ensures { result ≡ dimensions_of column.now face.now pair }
     {
         let edge = spacing.column_edge.min(spacing.plate_edge);
+        let column_web = u64::from(column.web) * steel.column;
+        let beam_web = u64::from(face.beam.web) * steel.beam;
         Dimensions {
             column: Stub::new(spacing.column, edge, column.flange, steel.column, pair),
             plate: Stub::new(spacing.plate, edge, face.plate.thickness, steel.plate, pair),
@@ -64,8 +66,8 @@ impl Dimensions {
                 pair,
             ),
             web_length: 173 * u64::from(face.layout.gauge),
-            column_web: u64::from(column.web) * steel.column,
-            beam_web: u64::from(face.beam.web) * steel.beam,
+            column_web,
+            lesser_web: column_web.min(beam_web),
             pair,
             first: face.extended as usize,
         }
@@ -160,17 +162,22 @@ impl<'a> Group<'a> {
         }
     }
 
-    // A limit with the webs'.
+    // A limit with the webs'. Where both limit, the lesser web's tension is the lesser.
     #[tactic(auto, unfolding(crate::specs::Dimensions::webs_by))]
     fn with_webs(&self, limit: u64) -> u64
         ensures { result ≡ webs_by self.now.dimensions.now self.now.row self.now.rise limit }
     {
-        let d = self.dimensions;
-        let web = limit.min(web_tension(d.web_length, self.rise, d.column_web));
-        if d.first < self.row {
-            web.min(web_tension(d.web_length, self.rise, d.beam_web))
+        limit.min(web_tension(self.dimensions.web_length, self.rise, self.web()))
+    }
+
+    // The column's web, or the lesser of it and the beam's.
+    fn web(&self) -> u64
+        ensures { result ≡ web_for self.now.dimensions.now self.now.row }
+    {
+        if self.dimensions.first < self.row {
+            self.dimensions.lesser_web
         } else {
-            web
+            self.dimensions.column_web
         }
     }
 }

@@ -2,7 +2,7 @@
 use native.Mathlib.Omega.{arith}
 use borrow.Author.Tests.{ne_eqb}
 use Rattle.arithmetic.proofs.Bounds.{at_most, exactly, loosen}
-use Rattle.stubs.specs.InRange.{group_rows}
+use Rattle.stubs.specs.InRange.{group_rows, StubWithin}
 use Rattle.stubs.proofs.Sizes.{stub_within, extension_length_le}
 use Rattle.tension.proofs.Sizes.{extension_parts}
 use Rattle.tension.proofs.Worked.{extension_worked}
@@ -17,11 +17,13 @@ bending-requires c =
     let f = a.face.now in
     let parts = extension_parts f a.m a.plate_edge a.strength a.pair c.requires c.if-face-eq0.false in
     let most = extension_length_le a.m f.layout.edge a.plate_edge f.layout.gauge f.plate.width in
+    let stub : StubWithin c.new-stub.result = rw (c.new-stub.ensures, c.from-end.ensures) (stub_within _ _ _ _ _ parts) in
     record {
-      stub = rw (c.new-stub.ensures, c.from-end.ensures) (stub_within _ _ _ _ _ parts);
+      stub = stub;
       pair = c.requires.pair;
       rows = loosen group_rows (exactly 1) tt;
       length_most = at_most (omega (arith, c.extension_length-length.ensures, most, c.requires.face.plate.width.high));
+      prying_moment_fits = omega (arith, stub.prying_moment.high);
     }
 
 pub returns : goal.returns

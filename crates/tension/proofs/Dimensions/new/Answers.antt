@@ -1,6 +1,6 @@
 -- `Dimensions::new` meets its contract, figure by figure: what was measured is what the definitions say. Assumes nothing.
 use mathlib.Core.Path.{◌∙◌}
-use Prim.Native.Nat.{◌*◌, ◌/◌, ◌≤◌}
+use Prim.Native.Nat.{◌*◌, ◌/◌, ◌≤◌, min}
 use native.Mathlib.Omega.{arith}
 use Rattle.arithmetic.proofs.Bounds.{◌⊗◌, fits}
 use Rattle.stubs.specs.InRange.{edge_distances}
@@ -29,15 +29,15 @@ new-requires-2 c =
     let here = goal.at.new-requires-2 c in
     plate_parts _ _ c.requires.0 _ _ _ c.requires.1 _ (edge_most here.After-min-edge)
 
-pub overflow_mul-result-3 : goal.overflow_mul-result-3
-overflow_mul-result-3 c =
-    let here = goal.at.overflow_mul-result-3 c in
-    rw c.from-3.ensures (fits (c.requires.0.column.web ⊗ (sizes_at here.After-min-edge).strengths.column) tt)
+pub overflow_mul-column_web : goal.overflow_mul-column_web
+overflow_mul-column_web c =
+    let here = goal.at.overflow_mul-column_web c in
+    rw c.from.ensures (fits (c.requires.0.column.web ⊗ (sizes_at here.After-min-edge).strengths.column) tt)
 
-pub overflow_mul-result-4 : goal.overflow_mul-result-4
-overflow_mul-result-4 c =
-    let here = goal.at.overflow_mul-result-4 c in
-    rw c.from-4.ensures (fits (c.requires.0.face.beam.web ⊗ (sizes_at here.After-min-edge).strengths.beam) tt)
+pub overflow_mul-beam_web : goal.overflow_mul-beam_web
+overflow_mul-beam_web c =
+    let here = goal.at.overflow_mul-beam_web c in
+    rw c.from-2.ensures (fits (c.requires.0.face.beam.web ⊗ (sizes_at here.After-min-edge).strengths.beam) tt)
 
 pub extension_limit-requires : goal.extension_limit-requires
 extension_limit-requires c = extension_figures _ _ c.requires.0 _ _ _ c.requires.1
@@ -55,11 +55,11 @@ returns c =
           ∙ (λ t. lengths_of (m.distances t).column (m.distances t).column_edge)) i;
       plate_lengths = (c.new-4.ensures
           ∙ (λ t. lengths_of (m.distances t).plate (m.distances t).plate_edge)) i;
-      near_flange = c.from.ensures i * (m.distances i).plate / 100;
+      near_flange = c.from-3.ensures i * (m.distances i).plate / 100;
       extension_limit = c.extension_limit.ensures i;
-      web_length = 173 * c.from-2.ensures i;
-      column_web = c.from-3.ensures i * (m.strengths i).column;
-      beam_web = c.from-4.ensures i * (m.strengths i).beam;
+      web_length = 173 * c.from-4.ensures i;
+      column_web = c.from.ensures i * (m.strengths i).column;
+      lesser_web = (c.min.ensures ∙ (λ t. min (c.from.ensures t * (m.strengths t).column) (c.from-2.ensures t * (m.strengths t).beam))) i;
       pair = c.args.pair;
       first = face.extended;
     }
