@@ -14,11 +14,10 @@ use Rattle.sharing.proofs.Lowering.{lowered_last, lowered_next}
 use Rattle.allocation.specs.Steps.{own_table, Countable, Counted}
 
 -- How things stand when the groups that end at row `last` or below are counted: the lowered limit of the last one counted, and before the
--- first nothing is lowered.
+-- first a number that lowers none.
 pub record CountedFrom (limits : List ℕ) (row n above last low : ℕ) (sums₀ sums : List ℕ) : Type 0 where
   pub from_row : row ≤ last
-  pub small : low ≤ most_limit
-  pub none : n ≤ last → low ≡ most_limit
+  pub none : n ≤ last → most_limit ≤ low
   pub least : last < n → low ≡ lowered (own_table limits row) n row last
   pub counted : Counted (own_table limits row) n row above last sums₀ sums
 
@@ -44,7 +43,6 @@ module _ (limits : List ℕ) (row n above : ℕ) (asked : Countable limits row n
       let held : last < length sums = omega (arith, c.counted.size) in
       record {
         from_row = h;
-        small = omega (arith, c.small);
         none = λ past. absurd (omega arith);
         least = λ _. own;
         counted = record {

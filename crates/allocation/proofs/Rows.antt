@@ -4,11 +4,12 @@
 -- as well. Assumes nothing.
 use mathlib.Core.Path.{◌≡◌, refl, sym, ap, ap₂, ◌∙◌}
 use mathlib.Core.Logic.{⊎_elim}
-use Prim.Native.Nat.{ℕ, zero, suc, ◌+◌, ◌-◌, ◌≤◌, ◌<◌, min}
+use Prim.Native.Nat.{ℕ, zero, suc, ◌+◌, ◌-◌, ◌^◌, ◌≤◌, ◌<◌, min}
 use native.Mathlib.Nat.{le_of_eq, eq-or-lt_of_le, le_refl, le_trans, le_antisymm, le-min, min-le_left, min-le_right, le-suc_iff}
 use native.Mathlib.Omega.{arith}
 use native.Mathlib.Numerals.{add-one}
 use mathlib.Core.List.{List, [], ◌∷◌, ◌++◌}
+use lib.Dec.{lit≤}
 use lib.ListN.{length, get_or, set, take, drop, replicate, get_or-replicate}
 use lib.Seq.{set_at, append_snoc}
 use Rattle.std.proofs.Common.{length-drop, drop-drop}
@@ -24,9 +25,13 @@ use Rattle.joint.specs.Places.{eight_places}
 use Rattle.sharing.proofs.Agreement.{lowered_agrees}
 use Rattle.allocation.specs.Steps.{Shareable, own_table, Countable, Counted}
 
+-- more than any sum: where a sum begins, before a group is counted into it
+abbrev pub unbounded : ℕ
+unbounded = 2 ^ 64 - 1
+
 -- What the groups that begin at the first r rows allow the sum down to row k to be.
 unfoldable pub allowed : Table → ℕ → ℕ → ℕ → ℕ
-allowed limit n zero k = most_limit
+allowed limit n zero k = unbounded
 allowed limit n (suc r) k = min (allowed limit n r k) (sum_down_to limit n r + lowered limit n r k)
 
 -- A table of the list's limits, of which those of single rows may be lower.
@@ -78,7 +83,7 @@ module _ {n : ℕ} {limits : List ℕ} {table : Table} (s : Shareable n limits) 
   -- the groups down to row r allow the shared sum
   sum_le_allowed : (k r : ℕ) → r ≤ suc k → k < n → sum_down_to table n (suc k) ≤ allowed table n r k
   unfolding allowed
-  sum_le_allowed k zero h inside = sum_le_most (suc k) inside
+  sum_le_allowed k zero h inside = le_trans (sum_le_most (suc k) inside) (lit≤ tt)
   sum_le_allowed k (suc r) h inside =
       le-min (sum_le_allowed k r (omega arith) inside) (sum_le table n k r inside (omega arith))
 
@@ -91,11 +96,6 @@ module _ {n : ℕ} {limits : List ℕ} {table : Table} (s : Shareable n limits) 
       (λ last. let same : i ≡ r = omega arith in rw same (min-le_right _ _))
       (le-suc_iff.0 h)
 
-  allowed_le_most : (r k : ℕ) → allowed table n r k ≤ most_limit
-  unfolding allowed
-  allowed_le_most zero k = le_refl _
-  allowed_le_most (suc r) k = le_trans (min-le_left _ _) (allowed_le_most r k)
-
   -- all its groups allow no more
   allowed_is_sum : (k : ℕ) → k < n → allowed table n (suc k) k ≡ sum_down_to table n (suc k)
   allowed_is_sum k inside =
@@ -103,7 +103,7 @@ module _ {n : ℕ} {limits : List ℕ} {table : Table} (s : Shareable n limits) 
       (le_sum table n k _ (λ i h. allowed_le k (suc k) i (omega arith)))
       (sum_le_allowed k (suc k) (le_refl (suc k)) inside)
 
-  pub start : SharedDownTo n limits table (replicate row_counts.high 0) (replicate row_counts.high most_limit) 0 limits 0
+  pub start : SharedDownTo n limits table (replicate row_counts.high 0) (replicate row_counts.high unbounded) 0 limits 0
   unfolding sum_down_to forces_down_to groups_above allowed
   start =
       record {
@@ -112,7 +112,7 @@ module _ {n : ℕ} {limits : List ℕ} {table : Table} (s : Shareable n limits) 
         sum = refl;
         got = refl;
         size = refl;
-        left = λ k h inside. get_or-replicate row_counts.high k most_limit 0 (omega (arith, s.rows));
+        left = λ k h inside. get_or-replicate row_counts.high k unbounded 0 (omega (arith, s.rows));
       }
 
   module _ {forces sums : List ℕ} {above : ℕ} {rest : List ℕ} {row : ℕ} (d : SharedDownTo n limits table forces sums above rest row)
@@ -181,8 +181,16 @@ module _ {n : ℕ} {limits : List ℕ} {table : Table} (s : Shareable n limits) 
         counted_is_allowed k h under =
             c.counted k (omega arith) under ∙ λ i. min (d.left k (omega arith) under i) (d.sum i + longer_lowered k h under i)
 
-        pub counted_le_most : get_or sums' row 0 ≤ most_limit
-        counted_le_most = omega (arith, c.counted row (le_refl row) inside, d.left row (le_refl row) inside, allowed_le_most row row)
+        -- the row's own group leaves it no more than any limit is
+        pub counted_le : get_or sums' row 0 ≤ above + most_limit
+        counted_le =
+            omega (
+              arith,
+              c.counted row (le_refl row) inside,
+              lowered_le (own_table own row) n row row,
+              own_limit row (le_refl row) inside,
+              limit_le_most n limits s row row (le_refl row) inside,
+            )
 
         -- with the sum down to the row held to the most as well
         module _ (most : ℕ) {sum : ℕ} (lower : table row row ≡ min (listed n limits row row) most)

@@ -53,11 +53,13 @@ pub fn allocate(count: usize, limits: &[u64]) -> Result<[u64; 8], LimitsRefusal>
     Ok(share(count, limits, None))
 }
 
-// No limit is above the most that is taken.
+// No limit is above the most that is taken. A bitwise or is at least each number in it: where that isn't above the most, none is. It never
+// stops early, so that the compiler takes several limits at once. Only where it is above are they asked one by one.
 fn none_above_most(limits: &[u64]) -> bool
     ensures { result ≡ none_above most_limit limits.now }
 {
-    limits.iter().all(|limit| *limit <= MOST)
+    let bits = limits.iter().fold(0, |bits, limit| bits | *limit);
+    bits <= MOST || limits.iter().all(|limit| *limit <= MOST)
 }
 
 // P207's triangle: each row below the reference row gets no more than the reference row's force, by the ratio of their levers.
@@ -69,15 +71,38 @@ pub struct LentTriangle<'a> {
 }
 
 // The sharing itself, in a triangle or without. Open for Work, which has shown that there is a limit for each group and none too large, and
-// of a triangle a lever for each row, of which the reference row's isn't 0. By index: what the triangle adds on a row is asked of the forces
-// above it. Inlined, so that Allocate has the loop without a triangle.
+// of a triangle a lever for each row, of which the reference row's isn't 0. Without a triangle each count is handed on as a constant: the
+// compiler writes out loops whose counts it knows. Inlined, so that Allocate has nothing of a triangle.
 #[inline(always)]
 pub fn share(count: usize, limits: &[u64], triangle: Option<LentTriangle>) -> [u64; 8]
     requires { Shareable count limits.now × TriangleFits (triangle_of triangle) count }
     ensures { result ≡ eight_places (shared (limits_in (triangle_of triangle.entry) (listed count limits.now) count) count) }
 {
+    if triangle.is_some() {
+        return share_rows(count, limits, triangle);
+    }
+    match count {
+        0 => share_rows(0, limits, None),
+        1 => share_rows(1, limits, None),
+        2 => share_rows(2, limits, None),
+        3 => share_rows(3, limits, None),
+        4 => share_rows(4, limits, None),
+        5 => share_rows(5, limits, None),
+        6 => share_rows(6, limits, None),
+        7 => share_rows(7, limits, None),
+        _ => share_rows(8, limits, None),
+    }
+}
+
+// The same, row by row. A sum begins above any that the limits allow. By index: what the triangle adds on a row is asked of the forces above
+// it. Inlined, so that each constant count has code of its own.
+#[inline(always)]
+fn share_rows(count: usize, limits: &[u64], triangle: Option<LentTriangle>) -> [u64; 8]
+    requires { Shareable count limits.now × TriangleFits (triangle_of triangle) count }
+    ensures { result ≡ eight_places (shared (limits_in (triangle_of triangle.entry) (listed count limits.now) count) count) }
+{
     let mut forces = [0u64; 8];
-    let mut sums = [MOST; 8];
+    let mut sums = [u64::MAX; 8];
     let mut above = 0;
     let mut rest = limits;
     for row in 0..count {
@@ -107,12 +132,12 @@ fn added_on(triangle: Option<LentTriangle>, forces: &[u64; 8], row: usize) -> Op
 }
 
 // Counts the groups that begin at `row` into the sums from the top. From the longest group to the shortest, so that each limit is lowered
-// by the last. By index: a part of the sums, with zip and rev, is slower.
+// by the last. By index: a part of the sums, with zip and rev, was slower in a loop (docs/DESIGN-PASS.md).
 fn count_groups(sums: &mut [u64; 8], limits: &[u64], row: usize, count: usize, above: u64)
     requires { Countable limits.now row count above }
     ensures { Counted (own_table limits.now row) count row above row sums.old sums.new }
 {
-    let mut lowered = MOST;
+    let mut lowered = u64::MAX;
     for last in (row..count).rev() {
         lowered = lowered.min(limits[last - row]);
         sums[last] = sums[last].min(above + lowered);

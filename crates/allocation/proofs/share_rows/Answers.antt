@@ -1,4 +1,4 @@
--- `share` meets its contract: each turn gives one row its force (the law `turn`). Assumes nothing.
+-- `share_rows` meets its contract: each turn gives one row its force (the law `turn`). Assumes nothing.
 use mathlib.Core.Path.{◌≡◌, sym, ap, ◌∙◌}
 use Rattle.std.specs.Prelude.{unwrap_or}
 use Prim.Native.Nat.{◌+◌, ◌*◌, ◌≤◌, min}
@@ -9,9 +9,9 @@ use Rattle.sharing.specs.Groups.{listed, most_limit}
 use Rattle.sharing.specs.Triangle.{limits_in}
 use Rattle.allocation.specs.Steps.{triangle_of, AddedAsked, added_on}
 use Rattle.allocation.proofs.InTriangle.{rows_lowered, single_limit, added_small}
-use Rattle.allocation.proofs.Rows.{start, rest_length, forces_le_most, countable, counted_le_most, down_grows, turn, finish}
-use Rattle.allocation.proofs.share.Goals as goal
-use Rattle.allocation.proofs.share.Goals.{After-count_groups, Joined-added_on, in-Some, in-None}
+use Rattle.allocation.proofs.Rows.{start, rest_length, forces_le_most, countable, counted_le, down_grows, turn, finish}
+use Rattle.allocation.proofs.share_rows.Goals as goal
+use Rattle.allocation.proofs.share_rows.Goals.{After-count_groups, Joined-added_on, in-Some, in-None}
 
 pub loop-row-init : goal.loop-row-init
 loop-row-init c = start c.requires.0 (rows_lowered _)
@@ -56,7 +56,7 @@ sum : (c : Joined-added_on) → c.match-added_on.sum
 sum c = elim c.match-added_on.branch [
   | in-Some w ↦ omega (arith, w.sum-is, w.min-sum.ensures, ap (λ o. unwrap_or o most_limit) (sym w.in-Some.is ∙ c.added_on.ensures))
   | in-None w ↦
-      let few = counted_le_most c.requires.0 (rows_lowered _) c.loop-row.invariant c.loop-row-test.true c.split_at.ensures.front
+      let few = counted_le c.requires.0 (rows_lowered _) c.loop-row.invariant c.loop-row-test.true c.split_at.ensures.front
       c.count_groups.ensures in
       omega (arith, few, w.sum-is, ap (λ o. unwrap_or o most_limit) (sym w.in-None.is ∙ c.added_on.ensures))
 ]

@@ -3,7 +3,7 @@ use Rattle.sharing.specs.Groups.{listed}
 use Rattle.sharing.specs.Triangle.{limits_in}
 use Rattle.allocation.specs.Steps.{triangle_of}
 use Rattle.allocation.proofs.Rows.{SharedDownTo}
-use Rattle.allocation.proofs.share.Given as goal
+use Rattle.allocation.proofs.share_rows.Given as goal
 
 abbrev pub invariant-loop-row : goal.invariant-loop-row
 invariant-loop-row l =
