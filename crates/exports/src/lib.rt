@@ -177,7 +177,7 @@ fn work_joint(table: TableWords, fields: JointWords, res: &mut [u64]) -> Result<
 {
     let joint = fields.joint();
     let area = table.lent().area_of(joint.bolts.diameter);
-    let worked = work::work_with(area, joint)?;
+    let worked = work::work_with(area, &joint)?;
     put_outcome(&worked, res);
     Ok(())
 }

@@ -118,7 +118,7 @@ impl SheetInput<'_> {
         while !left.is_empty() {
             match read(left, FileKind::New) {
                 Ok(reading) => {
-                    put_joint(sink, number, reading.joint);
+                    put_joint(sink, number, &reading.joint);
                     left = &left[reading.next..];
                     number += 1;
                 }
@@ -129,9 +129,9 @@ impl SheetInput<'_> {
 }
 
 // Works a joint with the bolts built in, and hands over its lines. Rows are shown without the mark of a second face.
-fn put_joint<S: Sink>(sink: &mut S, number: u64, joint: Joint)
-    requires { S.has_room sink.old (concatenated (joint_lines number joint)) }
-    ensures { S.takes sink.old (concatenated (joint_lines number joint)) sink.new }
+fn put_joint<S: Sink>(sink: &mut S, number: u64, joint: &Joint)
+    requires { S.has_room sink.old (concatenated (joint_lines number joint.now)) }
+    ensures { S.takes sink.old (concatenated (joint_lines number joint.now)) sink.new }
 {
     let outcome = work::work(&bolttable::built_in(), joint);
     put_outcome(

@@ -27,7 +27,7 @@ pub fn joint_words(numbers: &[u64]) -> Result<[u32; JOINT_WORDS], Difference> {
 // What a joint's words come to with a bolt table in force.
 pub fn worked_numbers(table: &BoltTable, joint: [u32; JOINT_WORDS]) -> [u64; OUTCOME_NUMBERS] {
     let mut numbers = [0u64; OUTCOME_NUMBERS];
-    match work::work(table, JointWords { words: &joint }.joint()) {
+    match work::work(table, &JointWords { words: &joint }.joint()) {
         Ok(worked) => put_outcome(&worked, &mut numbers[2..]),
         Err(refusal) => {
             numbers[0] = u64::from(refusal.number());

@@ -17,18 +17,18 @@ use outcome::{JointRefusal, RefusedFace, SecondFace, Worked};
 
 // Works any joint with any bolt table in force: the whole result, or the first refusal in their order that holds. The row forces are the
 // best there are: demand 3, in specs/Demand.antt. Of a joint with one face nothing of a second is looked at.
-pub fn work(table: &BoltTable, joint: Joint) -> Result<Worked, JointRefusal>
-    ensures equals { outcome_meaning result ≡ worked table.now joint }
-    ensures demand { OnOk result (Demand3Of table.now joint (outcome_meaning result)) }
+pub fn work(table: &BoltTable, joint: &Joint) -> Result<Worked, JointRefusal>
+    ensures equals { outcome_meaning result ≡ worked table.now joint.now }
+    ensures demand { OnOk result (Demand3Of table.now joint.now (outcome_meaning result)) }
 {
     work_with(bolttable::area_of(table, joint.bolts.diameter), joint)
 }
 
 // The same by the area that the table lists for the joint's bolts. Open for the exported calls, which have it from a table that is lent.
-pub fn work_with(area: Option<u32>, joint: Joint) -> Result<Worked, JointRefusal>
-    requires { AreaInRange joint.bolts.diameter area }
-    ensures equals { outcome_meaning result ≡ worked_with area joint }
-    ensures demand { OnOk result (Demand3With area joint (outcome_meaning result)) }
+pub fn work_with(area: Option<u32>, joint: &Joint) -> Result<Worked, JointRefusal>
+    requires { AreaInRange joint.now.bolts.diameter area }
+    ensures equals { outcome_meaning result ≡ worked_with area joint.now }
+    ensures demand { OnOk result (Demand3With area joint.now (outcome_meaning result)) }
 {
     let shared = SharedParts {
         column: joint.column,
