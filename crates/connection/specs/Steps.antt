@@ -5,7 +5,9 @@ use Rattle.joint.specs.InRange.{ColumnInRange, FaceInRange}
 use Rattle.joint.specs.Ranges.{row_counts}
 use Rattle.joint.specs.declared.Column.{Column}
 use Rattle.joint.specs.declared.Face.{Face}
-use Rattle.sharing.specs.Groups.{most_limit}
+use Rattle.sharing.specs.Groups.{most_limit, with_cap}
+use Rattle.sharing.specs.Sharing.{shared}
+use Rattle.sharing.specs.Triangle.{limits_in}
 use Rattle.strength.specs.InRange.{BoltInRange}
 use Rattle.strength.specs.declared.BoltStrengths.{BoltStrengths}
 use Rattle.strength.specs.declared.SteelStrengths.{SteelStrengths}
@@ -18,7 +20,7 @@ use Rattle.verdicts.specs.Tally.{tally_of}
 use Rattle.verdicts.specs.declared.Tally.{Tally}
 use Rattle.outcome.specs.Outcome.{FaceOutcome, face_meaning}
 use Rattle.outcome.specs.declared.FaceRefusal.{FaceRefusal}
-use Rattle.connection.specs.OneFace.{rows_of, steel_of, governing_of, cap_of, levers_of}
+use Rattle.connection.specs.OneFace.{rows_of, levers_of, limit_of, steel_of, governing_of, cap_of, triangle_on}
 
 -- What an admission comes to, where `outcome` is what a face that is admitted comes to.
 abbrev pub admitted_to : FaceOutcome → Result ⊤ FaceRefusal → FaceOutcome
@@ -34,6 +36,12 @@ pub record AtWork (c : Column) (b : BoltStrengths) (f : Face) (spacing : Spacing
   pub eight_levers : length f.levers ≡ row_counts.high
   pub distances : spacing ≡ spacing_of c f
   pub strengths : steel ≡ steel_of c f
+
+-- The forces of a face's rows under the limits of the groups, this cap and the triangle's limits, in their eight places.
+abbrev pub places_under : Column → BoltStrengths → Face → (cap : ℕ) → List ℕ
+places_under column bolt face cap =
+    let limit = with_cap (limit_of column bolt face) (rows_of face) cap in
+    eight_places (shared (limits_in (triangle_on column bolt face) limit (rows_of face)) (rows_of face))
 
 -- The governing check of a face and its cap.
 pub record FaceCap (panel_counts : Bool) (c : Column) (f : Face) (check : CompressionCheck) (cap : ℕ) : Type 0 where

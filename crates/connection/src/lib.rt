@@ -6,20 +6,17 @@ ghost use Rattle.std.specs.Prelude.{◌≡◌, Bool, ℕ, ◌≤◌, get_or, tak
 ghost use Rattle.arithmetic.specs.Checks.{first_failing, checks_before};
 ghost use Rattle.bolttable.specs.InRange.{AreaInRange};
 ghost use Rattle.joint.specs.InRange.{ColumnInRange, FaceInRange};
-ghost use Rattle.joint.specs.Places.{eight_places};
 ghost use Rattle.compression.specs.InRange.{most_bearing};
 ghost use Rattle.governing.specs.Governing.{force_of};
 ghost use Rattle.outcome.specs.Outcome.{FaceOutcome, face_meaning};
-ghost use Rattle.sharing.specs.Groups.{with_cap, most_limit};
-ghost use Rattle.sharing.specs.Sharing.{shared};
-ghost use Rattle.sharing.specs.Triangle.{limits_in};
+ghost use Rattle.sharing.specs.Groups.{most_limit};
 ghost use Rattle.allocation.specs.Steps.{triangle_of};
 ghost use Rattle.strength.specs.InRange.{BoltInRange};
 ghost use Rattle.tension.specs.Admissible.{Admissible};
-ghost use Rattle.connection.specs.OneFace.{rows_of, limit_of, triangle_on, governing_of, verdicts_of};
+ghost use Rattle.connection.specs.OneFace.{rows_of, triangle_on, governing_of, verdicts_of};
 ghost use Rattle.connection.specs.Connection.{refused_after_10, refusals_after_10, result_of, worked_face, worked_connection};
 ghost use Rattle.connection.specs.Demand.{Demand3For};
-ghost use Rattle.connection.specs.Steps.{AtWork, FaceCap, Tallied, admitted_to};
+ghost use Rattle.connection.specs.Steps.{AtWork, FaceCap, Tallied, admitted_to, places_under};
 
 use allocation::LentTriangle;
 use governing::CompressionCheck;
@@ -149,20 +146,26 @@ impl<'a> FaceAtWork<'a> {
         }
     }
 
-    // The forces of the rows, under the limits of all groups and the cap on them together, in the triangle or without. With no rows there
-    // is no group of all rows for the cap, and no force.
+    // The forces of the rows. With no rows there is no group of all rows for the cap, and no force.
     fn row_forces(&self, cap: u64) -> [u64; 8]
         requires { Admissible self.now.column.now self.now.face.now }
-        ensures value { result
-            ≡ eight_places (shared (limits_in (triangle_on self.now.column.now self.now.bolt self.now.face.now)
-            (with_cap (limit_of self.now.column.now self.now.bolt self.now.face.now) (rows_of self.now.face.now) cap)
-            (rows_of self.now.face.now)) (rows_of self.now.face.now)) }
+        ensures value { result ≡ places_under self.now.column.now self.now.bolt self.now.face.now cap }
+        ensures by_index { (k : ℕ) → get_or result k 0 ≤ most_limit }
+    {
+        if self.face.rows == 0 {
+            return [0; 8];
+        }
+        self.shared_forces(cap)
+    }
+
+    // The forces of rows that there are, under the limits of all groups and the cap on them together, in the triangle or without. A function
+    // of its own, so that no table is cleared where there are no rows: a function's locals are cleared as it begins.
+    fn shared_forces(&self, cap: u64) -> [u64; 8]
+        requires { Admissible self.now.column.now self.now.face.now × (1 ≤ rows_of self.now.face.now) }
+        ensures value { result ≡ places_under self.now.column.now self.now.bolt self.now.face.now cap }
         ensures by_index { (k : ℕ) → get_or result k 0 ≤ most_limit }
     {
         let rows = self.face.rows as usize;
-        if rows == 0 {
-            return [0; 8];
-        }
         let whole = rows - 1;
         let mut limits = [0u64; 36];
         tension::group_limits(
