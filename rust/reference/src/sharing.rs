@@ -24,15 +24,32 @@ pub fn allocate(count: usize, limits: &[u64]) -> Result<[u64; ROWS], AllocateRef
     let limits = limits
         .get(..count * (count + 1) / 2)
         .ok_or(AllocateRefusal::FewLimits)?;
-    if limits.iter().any(|&limit| limit > GREATEST_LIMIT) {
+    if !none_too_great(limits) {
         return Err(AllocateRefusal::LimitTooGreat);
     }
     Ok(share(count, limits))
 }
 
-/// As `allocate`, for limits that are known to be enough and small enough.
+/// A bitwise or is at least each number in it, and never stops early; one by one they are asked only where it is too great.
+fn none_too_great(limits: &[u64]) -> bool {
+    let bits = limits.iter().fold(0, |bits, limit| bits | limit);
+    bits <= GREATEST_LIMIT || limits.iter().all(|&limit| limit <= GREATEST_LIMIT)
+}
+
+/// As `allocate`, for limits that are known to be enough and small enough. Each count has code of its own, whose loops are unrolled.
 pub fn share(count: usize, limits: &[u64]) -> [u64; ROWS] {
-    share_with(count, limits, |_, sum, _, _| sum)
+    let shared = |rows| share_with(rows, limits, |_, sum, _, _| sum);
+    match count {
+        0 => shared(0),
+        1 => shared(1),
+        2 => shared(2),
+        3 => shared(3),
+        4 => shared(4),
+        5 => shared(5),
+        6 => shared(6),
+        7 => shared(7),
+        _ => shared(8),
+    }
 }
 
 /// As `share`, but by the triangle: each row below the reference row gets no more than its added limit. Not inlined, so that the code for
@@ -60,7 +77,7 @@ fn added_limit(reference_force: u64, lever: u32, reference_lever: u32) -> u64 {
 
 /// The sum down to a row is the least over groups that end at it, and no more than what `bounded` leaves of it, which goes by the row, that
 /// sum, the sum above the row and the forces above it. Each limit is lowered once, and counted once into the sums of the rows it reaches.
-#[inline]
+#[inline(always)]
 fn share_with(
     count: usize,
     limits: &[u64],
@@ -143,6 +160,17 @@ mod tests {
     }
 
     const MOSTS: [u64; 4] = [3, 100, 10_000, 4_000_000_000];
+
+    #[test]
+    fn too_great_by_itself_alone() {
+        let greatest = GREATEST_LIMIT;
+        // each has bits that the other lacks
+        assert!(none_too_great(&[greatest, 294_967_295, 0]));
+        assert!(none_too_great(&[1 << 31, (1 << 31) - 1]));
+        assert!(none_too_great(&[]));
+        assert!(!none_too_great(&[0, greatest + 1, 0]));
+        assert!(!none_too_great(&[u64::MAX, 1]));
+    }
 
     #[test]
     fn shared_as_document_01_says() {

@@ -54,30 +54,41 @@ struct Stub {
     combined: u64,
     /// 200n'W
     prying: u64,
+    /// m + 2n'
+    reach: u64,
+    /// 200n'Wm
+    prying_moment: u64,
     /// W
     pair: u64,
 }
 
 impl Stub {
-    /// `thickness` in tenths of a millimetre; n' is the smaller of `reach` and 5m÷4.
-    fn new(thickness: u32, strength: u64, m: u64, reach: u64, pair: u64) -> Stub {
-        let n = reach.min(5 * m / 4);
+    /// `thickness` in tenths of a millimetre; n' is the smaller of `edge` and 5m÷4.
+    fn new(thickness: u32, strength: u64, m: u64, edge: u64, pair: u64) -> Stub {
+        let n = edge.min(5 * m / 4);
+        let prying = 200 * n * pair;
         Stub {
             resistance: square(thickness) * strength,
             yielding: 100 * m,
             combined: 200 * (m + n),
-            prying: 200 * n * pair,
+            prying,
+            reach: m + 2 * n,
+            prying_moment: prying * m,
             pair,
         }
     }
 
-    /// The bending limit of `rows` rows over an effective length.
+    /// The bending limit of `rows` rows over an effective length. Of the modes in which the flange yields the lesser alone is divided:
+    /// with b the bending, k rows and p the prying, b ÷ 100m is at most (b + kp) ÷ 200(m + n') exactly where b(m + 2n') is at most kpm.
     #[inline]
     fn limit(&self, length: u64, rows: u64) -> u64 {
         let bending = length * self.resistance;
-        let flange_yields = bending / self.yielding;
-        let flange_and_bolts = (bending + rows * self.prying) / self.combined;
-        flange_yields.min(flange_and_bolts).min(rows * self.pair)
+        let (moment, distance) = if bending * self.reach <= rows * self.prying_moment {
+            (bending, self.yielding)
+        } else {
+            (bending + rows * self.prying, self.combined)
+        };
+        (moment / distance).min(rows * self.pair)
     }
 }
 
@@ -105,27 +116,15 @@ impl Side {
     }
 }
 
-/// A web in tension.
-struct Web {
-    /// 173g, g in tenths of a millimetre
-    width: u64,
-    /// t×y, t in tenths of a millimetre
-    resistance: u64,
+/// A web's t×y, t in tenths of a millimetre.
+fn web_resistance(thickness: u32, strength: u64) -> u64 {
+    u64::from(thickness) * strength
 }
 
-impl Web {
-    /// `gauge` and `thickness` in tenths of a millimetre.
-    fn new(gauge: u32, thickness: u32, strength: u64) -> Web {
-        Web {
-            width: 173 * u64::from(gauge),
-            resistance: u64::from(thickness) * strength,
-        }
-    }
-
-    #[inline]
-    fn limit(&self, spread: u64) -> u64 {
-        (self.width + 100 * spread) * self.resistance / 10000
-    }
+/// A web in tension; `width` is 173g, g in tenths of a millimetre.
+#[inline]
+fn web_limit(width: u64, spread: u64, resistance: u64) -> u64 {
+    (width + 100 * spread) * resistance / 10000
 }
 
 /// The limit of the extension row alone on the plate.
@@ -161,8 +160,11 @@ struct Parts {
     beside_flange: u64,
     /// of the extension row alone; 0 if flush
     extension: u64,
-    column_web: Web,
-    beam_web: Web,
+    /// 173g
+    web_width: u64,
+    column_web: u64,
+    /// of the column's web and the beam's, for a group that both limit
+    lesser_web: u64,
     /// the first row below the beam flange
     under_flange: usize,
 }
@@ -179,7 +181,7 @@ impl Parts {
             column_m, plate_m, ..
         } = *distances;
         let pair = bolt.pair_tension;
-        let gauge = face.layout.gauge;
+        let column_web = web_resistance(column.web, steel.column);
         let least_e = distances.column_e.min(distances.plate_e);
         let column_stub = Stub::new(column.flange, steel.column, column_m, least_e, pair);
         let plate_stub = Stub::new(face.plate.thickness, steel.plate, plate_m, least_e, pair);
@@ -192,8 +194,9 @@ impl Parts {
             } else {
                 0
             },
-            column_web: Web::new(gauge, column.web, steel.column),
-            beam_web: Web::new(gauge, face.beam.web, steel.beam),
+            web_width: 173 * u64::from(face.layout.gauge),
+            column_web,
+            lesser_web: column_web.min(web_resistance(face.beam.web, steel.beam)),
             under_flange: face.row_under_flange(),
         }
     }
@@ -201,17 +204,20 @@ impl Parts {
     /// The limit of `rows` rows from `first` on.
     #[inline]
     fn limit(&self, first: usize, rows: u64, spread: u64) -> u64 {
+        let web = if first > self.under_flange {
+            self.lesser_web
+        } else {
+            self.column_web
+        };
         let column = self
             .column
             .limit(self.column.other, spread, rows)
-            .min(self.column_web.limit(spread));
+            .min(web_limit(self.web_width, spread, web));
         match first.cmp(&self.under_flange) {
             Ordering::Less if rows == 1 => column.min(self.extension),
             Ordering::Less => column,
             Ordering::Equal => column.min(self.plate.limit(self.beside_flange, spread, rows)),
-            Ordering::Greater => column
-                .min(self.plate.limit(self.plate.other, spread, rows))
-                .min(self.beam_web.limit(spread)),
+            Ordering::Greater => column.min(self.plate.limit(self.plate.other, spread, rows)),
         }
     }
 }
@@ -251,8 +257,48 @@ mod tests {
         assert_eq!(side.limit(side.other, 1900, 3), 972_382);
     }
 
+    /// The three modes as the rule has them, over lengths about the one where two of them meet.
+    #[test]
+    fn least_of_three_modes() {
+        let mut first = 0;
+        let mut second = 0;
+        for (thickness, strength) in [(40, 255), (95, 275), (205, 265), (500, 355)] {
+            for (m, edge) in [(500, 1000), (3334, 5000), (4000, 500), (15000, 30000)] {
+                for pair in [1, 188_160, 395_360, 4_501_420] {
+                    let stub = Stub::new(thickness, strength, m, edge, pair);
+                    let n = edge.min(5 * m / 4);
+                    for rows in 1..=8 {
+                        let meeting = rows * stub.prying_moment / (stub.resistance * stub.reach);
+                        for length in meeting.saturating_sub(2)..meeting + 3 {
+                            let bending = length * stub.resistance;
+                            let mode1 = bending / (100 * m);
+                            let mode2 = (bending + 200 * n * rows * pair) / (200 * (m + n));
+                            let least = mode1.min(mode2).min(rows * pair);
+                            assert_eq!(stub.limit(length, rows), least);
+                            first += u32::from(mode1 < mode2);
+                            second += u32::from(mode2 < mode1);
+                        }
+                    }
+                }
+            }
+        }
+        assert!(first > 500 && second > 500, "{first} {second}");
+    }
+
+    #[test]
+    fn lesser_of_two_webs() {
+        for (one, other) in [(130 * 265, 130 * 265), (3450, 34_451), (142_000, 141_999)] {
+            for spread in [0, 1, 999, 20_000] {
+                let each = [one, other].map(|web| web_limit(173 * 1000, spread, web));
+                let lesser = web_limit(173 * 1000, spread, one.min(other));
+                assert_eq!(lesser, each[0].min(each[1]));
+            }
+        }
+    }
+
     #[test]
     fn column_web_of_checked_joint_e() {
-        assert_eq!(Web::new(1000, 130, 265).limit(0), 595_985);
+        let web = web_resistance(130, 265);
+        assert_eq!(web_limit(173 * 1000, 0, web), 595_985);
     }
 }
