@@ -1,10 +1,13 @@
-//! Times the proved calls and the plain reading side by side, in one process and one run: for each line, rounds of the sides in turn,
-//! and the median of each. Prints a table for a page of docs/.
+//! Times the proved calls, those of a library of before, and the plain reading side by side, in one process and one run: for each line,
+//! rounds of the sides in turn, and the median of each. Prints a table for a page of docs/.
 
+mod libraries;
 mod rounds;
+mod sides;
 mod words;
 
-use proved::{longest_sheet, FORCES, JOINT_WORDS, NEW_KIND, RESULT_WORDS, TABLE_WORDS};
+use libraries::{sheet_before, Before, Plain, Proved};
+use proved::{JOINT_WORDS, TABLE_WORDS};
 use reference::{BoltTable, FileKind, Joint, BUILT_IN, GROUPS, LONGEST_FILE, LONGEST_INPUT, SIZES};
 use rounds::measure;
 use sample::{
@@ -23,6 +26,12 @@ const OWN_TABLE_SEED: u64 = 9;
 const TRIANGLE_SEED: u64 = 10;
 /// Of joints with no rows, so that the others stay the same.
 const NO_ROWS_SEED: u64 = 11;
+/// Whose calls the second column has.
+const BEFORE: &str = if cfg!(feature = "before") {
+    "the library that BEFORE named"
+} else {
+    "the same library again"
+};
 /// Different inputs of each line.
 const INPUTS: usize = 512;
 
@@ -37,11 +46,11 @@ const TWELVE_SIZES: BoltTable = BoltTable {
 
 fn main() {
     let mut random = Random::new(SEED);
-    println!("Nanoseconds a call, medians, {INPUTS} different inputs a line; ratio is plain ÷ proved, over the same words and bytes.");
-    println!("The last column is plain Rust on its own types. No buffer is cleared between calls.");
+    println!("Nanoseconds a call, of the sheet microseconds; medians, {INPUTS} different inputs a line, over the same words and bytes.");
+    println!("Before is {BEFORE}. The last column is plain Rust on its own types. No buffer is cleared between calls.");
     println!();
-    println!("| call | proved | plain Rust | ratio | plain, own types |");
-    println!("|---|---:|---:|---:|---:|");
+    println!("| call | proved | before | plain Rust | plain ÷ proved | proved ÷ before | plain, own types |");
+    println!("|---|---:|---:|---:|---:|---:|---:|");
     line("read, 1 to 8 rows", time_read(&mixed_joints(&mut random)));
     line("write, 1 to 8 rows", time_write(&mixed_joints(&mut random)));
     line("allocate, 8 rows", time_allocate(&mut random));
@@ -108,21 +117,22 @@ fn joints_of_each_size(mut draw: impl FnMut() -> Joint) -> Vec<Joint> {
 }
 
 /// Times are of a run over all inputs.
-fn line(call: &str, times: [f64; 3]) {
-    let [proved, plain, native] = times.map(|time| time / INPUTS as f64);
-    println!(
-        "| {call} | {proved:.1} | {plain:.1} | {:.2} | {native:.1} |",
-        plain / proved
-    );
+fn line(call: &str, times: [f64; 4]) {
+    let [proved, before, plain, native] = times.map(|time| time / INPUTS as f64);
+    let compared = compared(proved, before, plain);
+    println!("| {call} | {compared} | {native:.1} |");
 }
 
-fn sheet_line(input: &[u8], times: [f64; 2]) {
-    let [proved, plain] = times.map(|time| input.len() as f64 * 1000.0 / time);
-    println!(
-        "| sheet, {} bytes, megabytes a second | {proved:.0} | {plain:.0} | {:.2} | |",
-        input.len(),
-        times[1] / times[0]
-    );
+fn sheet_line(input: &[u8], times: [f64; 3]) {
+    let [proved, before, plain] = times.map(|time| time / 1000.0);
+    let compared = compared(proved, before, plain);
+    println!("| sheet, {} bytes | {compared} | |", input.len());
+}
+
+fn compared(proved: f64, before: f64, plain: f64) -> String {
+    let ahead = plain / proved;
+    let faster = proved / before;
+    format!("{proved:.1} | {before:.1} | {plain:.1} | {ahead:.2} | {faster:.2}")
 }
 
 /// Joints of one to eight rows, as many of each.
@@ -145,175 +155,82 @@ fn mixed_two_faced_joints(random: &mut Random) -> Vec<Joint> {
         .collect()
 }
 
-fn time_read(joints: &[Joint]) -> [f64; 3] {
+fn time_read(joints: &[Joint]) -> [f64; 4] {
     let files: Vec<Vec<u8>> = joints.iter().map(file_of).collect();
-    let mut proved_words = [0; JOINT_WORDS];
-    let mut plain_words = [0; JOINT_WORDS];
-    let mut next = 0;
-    let mut plain_next = 0;
     measure([
-        &mut || {
-            for file in &files {
-                black_box(proved::read(
-                    black_box(file),
-                    black_box(NEW_KIND),
-                    &mut proved_words,
-                    &mut next,
-                ));
-                black_box((&proved_words, next));
-            }
-        },
-        &mut || {
-            for file in &files {
-                black_box(words::read(
-                    black_box(file),
-                    black_box(FileKind::New),
-                    &mut plain_words,
-                    &mut plain_next,
-                ));
-                black_box((&plain_words, plain_next));
-            }
-        },
-        &mut || {
+        Box::new(sides::read::<Proved>(&files)),
+        Box::new(sides::read::<Before>(&files)),
+        Box::new(sides::read::<Plain>(&files)),
+        Box::new(|| {
             for file in &files {
                 black_box(&reference::read(black_box(file), black_box(FileKind::New)));
             }
-        },
+        }),
     ])
 }
 
-fn time_write(joints: &[Joint]) -> [f64; 3] {
-    let joint_words: Vec<[u32; JOINT_WORDS]> = joints.iter().map(Joint::to_fields).collect();
-    let mut proved_buffer = [0; LONGEST_FILE];
-    let mut plain_buffer = [0; LONGEST_FILE];
-    let mut native_buffer = [0; LONGEST_FILE];
-    let mut length = 0;
-    let mut plain_length = 0;
+fn time_write(joints: &[Joint]) -> [f64; 4] {
+    let fields: Vec<[u32; JOINT_WORDS]> = joints.iter().map(Joint::to_fields).collect();
+    let mut buffer = [0; LONGEST_FILE];
     measure([
-        &mut || {
-            for fields in &joint_words {
-                black_box(proved::write(
-                    black_box(fields),
-                    &mut proved_buffer,
-                    &mut length,
-                ));
-                black_box((&proved_buffer, length));
-            }
-        },
-        &mut || {
-            for fields in &joint_words {
-                black_box(words::write(
-                    black_box(fields),
-                    &mut plain_buffer,
-                    &mut plain_length,
-                ));
-                black_box((&plain_buffer, plain_length));
-            }
-        },
-        &mut || {
+        Box::new(sides::write::<Proved>(&fields)),
+        Box::new(sides::write::<Before>(&fields)),
+        Box::new(sides::write::<Plain>(&fields)),
+        Box::new(|| {
             for joint in joints {
-                black_box(&reference::write(black_box(joint), &mut native_buffer));
-                black_box(&native_buffer);
+                black_box(&reference::write(black_box(joint), &mut buffer));
+                black_box(&buffer);
             }
-        },
+        }),
     ])
 }
 
-fn time_allocate(random: &mut Random) -> [f64; 3] {
+fn time_allocate(random: &mut Random) -> [f64; 4] {
     let table = |random: &mut Random| (0..GROUPS).map(|_| random.below(3_000_000)).collect();
     let tables: Vec<Vec<u64>> = (0..INPUTS).map(|_| table(random)).collect();
-    let mut proved_forces = [0; FORCES];
-    let mut plain_forces = [0; FORCES];
     measure([
-        &mut || {
-            for limits in &tables {
-                black_box(proved::allocate(
-                    black_box(8),
-                    black_box(limits),
-                    &mut proved_forces,
-                ));
-                black_box(&proved_forces);
-            }
-        },
-        &mut || {
-            for limits in &tables {
-                black_box(words::allocate(
-                    black_box(8),
-                    black_box(limits),
-                    &mut plain_forces,
-                ));
-                black_box(&plain_forces);
-            }
-        },
-        &mut || {
+        Box::new(sides::allocate::<Proved>(&tables)),
+        Box::new(sides::allocate::<Before>(&tables)),
+        Box::new(sides::allocate::<Plain>(&tables)),
+        Box::new(|| {
             for limits in &tables {
                 black_box(&reference::allocate(black_box(8), black_box(limits)));
             }
-        },
+        }),
     ])
 }
 
-fn time_load(random: &mut Random) -> [f64; 3] {
+fn time_load(random: &mut Random) -> [f64; 4] {
     let tables: Vec<BoltTable> = (0..INPUTS)
         .map(|_| good_bolt_table(random, SIZES as u32))
         .collect();
-    let table_words: Vec<[u32; TABLE_WORDS]> = tables.iter().map(BoltTable::to_words).collect();
-    let mut proved_in_force = [0; TABLE_WORDS];
-    let mut plain_in_force = [0; TABLE_WORDS];
-    let mut native_in_force = BUILT_IN;
+    let words: Vec<[u32; TABLE_WORDS]> = tables.iter().map(BoltTable::to_words).collect();
+    let mut in_force = BUILT_IN;
     measure([
-        &mut || {
-            for words in &table_words {
-                black_box(proved::load(black_box(words), &mut proved_in_force));
-                black_box(&proved_in_force);
-            }
-        },
-        &mut || {
-            for words in &table_words {
-                black_box(words::load(black_box(words), &mut plain_in_force));
-                black_box(&plain_in_force);
-            }
-        },
-        &mut || {
+        Box::new(sides::load::<Proved>(&words)),
+        Box::new(sides::load::<Before>(&words)),
+        Box::new(sides::load::<Plain>(&words)),
+        Box::new(|| {
             for table in &tables {
-                black_box(&reference::load(black_box(table), &mut native_in_force));
-                black_box(&native_in_force);
+                black_box(&reference::load(black_box(table), &mut in_force));
+                black_box(&in_force);
             }
-        },
+        }),
     ])
 }
 
-fn time_work(table: &BoltTable, joints: &[Joint]) -> [f64; 3] {
+fn time_work(table: &BoltTable, joints: &[Joint]) -> [f64; 4] {
     let sizes = table.to_words();
-    let joint_words: Vec<[u32; JOINT_WORDS]> = joints.iter().map(Joint::to_fields).collect();
-    let mut proved_result = [0; RESULT_WORDS];
-    let mut plain_result = [0; RESULT_WORDS];
+    let fields: Vec<[u32; JOINT_WORDS]> = joints.iter().map(Joint::to_fields).collect();
     measure([
-        &mut || {
-            for fields in &joint_words {
-                black_box(proved::work(
-                    black_box(&sizes),
-                    black_box(fields),
-                    &mut proved_result,
-                ));
-                black_box(&proved_result);
-            }
-        },
-        &mut || {
-            for fields in &joint_words {
-                black_box(words::work(
-                    black_box(&sizes),
-                    black_box(fields),
-                    &mut plain_result,
-                ));
-                black_box(&plain_result);
-            }
-        },
-        &mut || {
+        Box::new(sides::work::<Proved>(&sizes, &fields)),
+        Box::new(sides::work::<Before>(&sizes, &fields)),
+        Box::new(sides::work::<Plain>(&sizes, &fields)),
+        Box::new(|| {
             for joint in joints {
                 black_box(&reference::work(black_box(table), black_box(joint)));
             }
-        },
+        }),
     ])
 }
 
@@ -328,21 +245,16 @@ fn full_input(random: &mut Random) -> Vec<u8> {
     input
 }
 
-/// Into buffers that are used again: a slice, and a vector that keeps its room. The slice holds any sheet of so many bytes, so that the
-/// proved side prints straight, as the sheet program does; in a shorter one it would measure the lines first.
-fn time_sheet(input: &[u8]) -> [f64; 2] {
-    let mut output = vec![0; longest_sheet(input.len())];
+/// The plain side's vector keeps its room.
+fn time_sheet(input: &[u8]) -> [f64; 3] {
     let mut lines = Vec::with_capacity(4 * LONGEST_INPUT);
-    let mut length = 0;
     measure([
-        &mut || {
-            black_box(proved::sheet(black_box(input), &mut output, &mut length));
-            black_box((&output, length));
-        },
-        &mut || {
+        Box::new(sides::sheet(proved::sheet, input)),
+        Box::new(sides::sheet(sheet_before, input)),
+        Box::new(|| {
             lines.clear();
             reference::sheet(black_box(input), &mut lines);
             black_box(&lines);
-        },
+        }),
     ])
 }

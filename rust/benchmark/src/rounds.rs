@@ -8,7 +8,7 @@ const ROUNDS: usize = 1001;
 const WARMING: usize = 100;
 
 /// Nanoseconds of one run of each side.
-pub fn measure<const SIDES: usize>(mut sides: [&mut dyn FnMut(); SIDES]) -> [f64; SIDES] {
+pub fn measure<const SIDES: usize>(mut sides: [Box<dyn FnMut() + '_>; SIDES]) -> [f64; SIDES] {
     for _ in 0..WARMING {
         for side in &mut sides {
             round(side);
