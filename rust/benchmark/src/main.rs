@@ -1,5 +1,5 @@
 //! Times the proved calls, those of a library of before, and the plain reading side by side, in one process and one run: for each line,
-//! rounds of the sides in turn, and the median of each. Prints a table for a page of docs/.
+//! rounds of the sides, and the median of each. Prints a table for a page of docs/.
 
 mod libraries;
 mod rounds;
