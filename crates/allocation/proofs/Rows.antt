@@ -181,7 +181,7 @@ module _ {n : ℕ} {limits : List ℕ} {table : Table} (s : Shareable n limits) 
         counted_is_allowed k h under =
             c.counted k (omega arith) under ∙ λ i. min (d.left k (omega arith) under i) (d.sum i + longer_lowered k h under i)
 
-        -- the row's own group leaves it no more than any limit is
+        -- the row's own group leaves its force no more than a limit may be
         pub counted_le : get_or sums' row 0 ≤ above + most_limit
         counted_le =
             omega (

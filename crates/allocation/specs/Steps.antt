@@ -2,9 +2,10 @@
 -- Assumes nothing.
 use Rattle.std.specs.Prelude.{◌≡◌, ℕ, ◌+◌, ◌-◌, ◌≤◌, ◌<◌, min, cond, List, length, get_or, ltb, Option, None, Some, IfSome}
 use Rattle.joint.specs.Ranges.{row_counts, most_lever}
-use Rattle.sharing.specs.Groups.{Table, group_count, most_limit}
-use Rattle.sharing.specs.Sharing.{lowered}
-use Rattle.sharing.specs.Triangle.{Triangle, added_limit}
+use Rattle.joint.specs.Places.{eight_places}
+use Rattle.sharing.specs.Groups.{Table, group_count, listed, most_limit}
+use Rattle.sharing.specs.Sharing.{lowered, shared}
+use Rattle.sharing.specs.Triangle.{Triangle, added_limit, limits_in}
 use Rattle.allocation.specs.declared.LentTriangle.{LentTriangle}
 
 -- At most eight rows, a limit for each group, and none so large that a sum could not be held.
@@ -42,6 +43,10 @@ pub record AddedAsked (triangle : Option Triangle) (forces : List ℕ) (row : �
 abbrev pub added_on : Option Triangle → (forces : List ℕ) (row : ℕ) → Option ℕ
 added_on None forces row = None
 added_on (Some t) forces row = cond (ltb t.reference row) (Some (added_limit t (get_or forces t.reference 0) row)) None
+
+-- The forces of n rows under the limits of a list, in a triangle or without, in their eight places.
+abbrev pub places_shared : Option Triangle → (n : ℕ) (limits : List ℕ) → List ℕ
+places_shared triangle n limits = eight_places (shared (limits_in triangle (listed n limits) n) n)
 
 -- The limits of the groups that begin at `row`, the shortest first, as a table; it is asked for no other row.
 abbrev pub own_table : (limits : List ℕ) (row : ℕ) → Table

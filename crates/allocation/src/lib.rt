@@ -3,14 +3,11 @@
 #![tactic(auto)]
 
 ghost use Rattle.std.specs.Prelude.{◌≡◌, take, IfOk};
-ghost use Rattle.joint.specs.Places.{eight_places};
 ghost use Rattle.sharing.specs.Groups.{listed, most_limit};
-ghost use Rattle.sharing.specs.Sharing.{shared};
-ghost use Rattle.sharing.specs.Triangle.{limits_in};
 ghost use Rattle.sharing.specs.Best.{Best};
 ghost use Rattle.allocation.specs.Allocation.{none_above, allocated};
 ghost use Rattle.allocation.specs.Answers.{number_of, allocation_meaning};
-ghost use Rattle.allocation.specs.Steps.{Shareable, triangle_of, TriangleFits, AddedAsked, added_on, own_table, Countable, Counted};
+ghost use Rattle.allocation.specs.Steps.{Shareable, triangle_of, TriangleFits, AddedAsked, added_on, places_shared, own_table, Countable, Counted};
 
 // No limit above this is taken: refusal 8.
 const MOST: u64 = 4_000_000_000;
@@ -76,7 +73,7 @@ pub struct LentTriangle<'a> {
 #[inline(always)]
 pub fn share(count: usize, limits: &[u64], triangle: Option<LentTriangle>) -> [u64; 8]
     requires { Shareable count limits.now × TriangleFits (triangle_of triangle) count }
-    ensures { result ≡ eight_places (shared (limits_in (triangle_of triangle.entry) (listed count limits.now) count) count) }
+    ensures { result ≡ places_shared (triangle_of triangle.entry) count limits.now }
 {
     if triangle.is_some() {
         return share_rows(count, limits, triangle);
@@ -99,7 +96,7 @@ pub fn share(count: usize, limits: &[u64], triangle: Option<LentTriangle>) -> [u
 #[inline(always)]
 fn share_rows(count: usize, limits: &[u64], triangle: Option<LentTriangle>) -> [u64; 8]
     requires { Shareable count limits.now × TriangleFits (triangle_of triangle) count }
-    ensures { result ≡ eight_places (shared (limits_in (triangle_of triangle.entry) (listed count limits.now) count) count) }
+    ensures { result ≡ places_shared (triangle_of triangle.entry) count limits.now }
 {
     let mut forces = [0u64; 8];
     let mut sums = [u64::MAX; 8];

@@ -1,5 +1,5 @@
 -- A T-stub's bending and a web's tension from figures that are the same for every group: each is a factor of those of `Bending` and `Web`,
--- but for reach and prying_moment, which only tell modes 1 and 2 apart. proofs/Same.antt has the laws that they come out as those say. Assumes
+-- but for reach and prying moment, which only tell modes 1 and 2 apart. proofs/Same.antt has the laws that they come out as those say. Assumes
 -- nothing.
 use Rattle.std.specs.Prelude.{ℕ, ◌+◌, ◌*◌, ◌/◌, min}
 use Rattle.stubs.specs.declared.Stub.{Stub}
