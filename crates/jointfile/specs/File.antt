@@ -1,6 +1,7 @@
 -- Reading a joint file of either kind (rules 9.3 to 9.5, 9.7 and 9.8): for each face a row count, the other fields and a lever for each
 -- row, one number after another, with the refusal of the first trouble; and what is left after it. Assumes nothing.
-use Rattle.std.specs.Prelude.{ℕ, ◌-◌, List, [], ◌∷◌, ◌++◌, Bool, true, false, cond, length, replicate}
+use Rattle.std.specs.Prelude.{ℕ, ◌≡◌, ◌+◌, ◌-◌, List, [], ◌∷◌, ◌++◌, Bool, true, false, cond, length, replicate}
+use Rattle.std.specs.Borrow.{Bor}
 use Rattle.arithmetic.specs.Range.{within}
 use Rattle.joint.specs.Ranges.{row_counts}
 use Rattle.joint.specs.Faces.{two_faced, first_rows}
@@ -92,3 +93,7 @@ left_of (refused r) = []
 
 abbrev pub rest_of : FileKind → List ℕ → List ℕ
 rest_of kind bytes = left_of (read_joint kind bytes)
+
+-- rule 9.5: that lent bytes are a part of other ones, in their very place and at their end
+abbrev pub EndOf : (part whole : Bor (List ℕ)) → Type 0
+EndOf part whole = part.ref_ptr ≡ (whole.ref_ptr.0, whole.ref_ptr.1 + (length whole.now - length part.now))

@@ -11,7 +11,7 @@ ghost use Rattle.buffers.specs.Writing.{Puts, HasRoom};
 ghost use Rattle.numbers.specs.Answers.{number_of};
 ghost use Rattle.numbers.specs.Run.{all_zero};
 ghost use Rattle.fields.specs.Fields.{field};
-ghost use Rattle.jointfile.specs.File.{stored_field_count, read_second, answer, reading, rest_of};
+ghost use Rattle.jointfile.specs.File.{stored_field_count, read_second, answer, reading, rest_of, EndOf};
 ghost use Rattle.jointfile.specs.Write.{rows_check, spare_check, file, writing};
 ghost use Rattle.jointfile.specs.Answers.{read_refusal, write_refusal, reading_meaning, OthersRead, PartRead};
 ghost use Rattle.jointfile.specs.Answers.{written_meaning, writing_if_room, part_stored, numbers_stored, FileParts};
@@ -157,13 +157,15 @@ pub fn read(bytes: &[u8], kind: FileKind) -> Result<Reading, ReadRefusal>
     Ok(Reading { joint, next })
 }
 
-// The part of the bytes after their first joint, empty when it can't be read.
+// The part of the bytes after their first joint, and where it can't be read the empty part at their end: in any case a part of the very
+// bytes that were lent.
 pub fn rest(bytes: &[u8], kind: FileKind) -> &[u8]
-    ensures { result.now ≡ rest_of kind bytes.now }
+    ensures value { result.now ≡ rest_of kind bytes.now }
+    ensures part { EndOf result bytes.entry }
 {
     match read(bytes, kind) {
         Ok(reading) => &bytes[reading.next..],
-        Err(_) => &[],
+        Err(_) => &bytes[bytes.len()..],
     }
 }
 

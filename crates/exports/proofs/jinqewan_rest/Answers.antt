@@ -9,7 +9,7 @@ use Rattle.exports.proofs.jinqewan_rest.Goals.{After-rest}
 left : (c : After-rest) → let bytes = c.args.bytes.now in length c.rest.result.now ≡ length bytes - (reading c.kind_of.result bytes).next
 left c =
     let bytes = c.args.bytes.now in
-    ap length (c.rest.ensures ∙ sym (next_left c.kind_of.result bytes)) ∙ length-drop (reading c.kind_of.result bytes).next bytes
+    ap length (c.rest.ensures.value ∙ sym (next_left c.kind_of.result bytes)) ∙ length-drop (reading c.kind_of.result bytes).next bytes
 
 pub overflow_sub-result : goal.overflow_sub-result
 overflow_sub-result c = omega (arith, left (goal.at.overflow_sub-result c).After-rest)
