@@ -26,7 +26,7 @@ use connection::{SharedParts, work_connection};
 use jointfile::FileKind;
 use outcome::{JointRefusal, RefusedFace};
 use words::joints::{JOINT_WORDS, JointWords, OneFaced};
-use words::results::{OUTCOME_WORDS, put_one_face, put_outcome};
+use words::results::{OUTCOME_WORDS, put_one_face, put_worked};
 use words::tables::{TABLE_WORDS, TableWords};
 
 // The number of the old kind of file.
@@ -178,7 +178,7 @@ fn work_joint(table: TableWords, fields: JointWords, res: &mut [u64]) -> Result<
     let joint = fields.joint();
     let area = table.lent().area_of(joint.bolts.diameter);
     let worked = work::work_with(area, &joint)?;
-    put_outcome(&worked, res);
+    put_worked(&worked, res);
     Ok(())
 }
 

@@ -1,7 +1,7 @@
 // Work on a line's joint: `work J = refusal field R`, and with a second face `work J = refusal field R R panel face`; after the table of an
 // `own` line the same.
 use crate::compare::{Difference, compare};
-use crate::reader::{Items, in_long_form, put_words};
+use crate::reader::{Items, Sides, in_long_form, put_words};
 use bolttable::BoltTable;
 use words::joints::{JOINT_WORDS, JointWords};
 use words::results::{FACE_WORDS, OUTCOME_WORDS, put_outcome};
@@ -16,24 +16,23 @@ pub const SHORT_OUTCOME: usize = FACE_WORDS + 2;
 
 // The words of a line's joint, in either form.
 pub fn joint_words(numbers: &[u64]) -> Result<[u32; JOINT_WORDS], Difference> {
+    if numbers.len() != SHORT_JOINT && numbers.len() != JOINT_WORDS {
+        return Err(Difference::Unreadable);
+    }
     let mut words = [0u32; JOINT_WORDS];
-    put_words(
-        &in_long_form::<JOINT_WORDS>(numbers, SHORT_JOINT)?,
-        &mut words,
-    )?;
+    put_words(numbers, &mut words)?;
     Ok(words)
 }
 
 // What a joint's words come to with a bolt table in force.
-pub fn worked_numbers(table: &BoltTable, joint: [u32; JOINT_WORDS]) -> [u64; OUTCOME_NUMBERS] {
+pub fn worked_numbers(table: &BoltTable, joint: &[u32; JOINT_WORDS]) -> [u64; OUTCOME_NUMBERS] {
     let mut numbers = [0u64; OUTCOME_NUMBERS];
-    match work::work(table, &JointWords { words: &joint }.joint()) {
-        Ok(worked) => put_outcome(&worked, &mut numbers[2..]),
-        Err(refusal) => {
-            numbers[0] = u64::from(refusal.number());
-            numbers[1] = u64::from(refusal.field());
-            numbers[OUTCOME_NUMBERS - 1] = u64::from(refusal.face());
-        }
+    let outcome = work::work(table, &JointWords { words: joint }.joint());
+    put_outcome(&outcome, &mut numbers[2..]);
+    if let Err(refusal) = outcome {
+        numbers[0] = u64::from(refusal.number());
+        numbers[1] = u64::from(refusal.field());
+        numbers[OUTCOME_NUMBERS - 1] = u64::from(refusal.face());
     }
     numbers
 }
@@ -41,10 +40,10 @@ pub fn worked_numbers(table: &BoltTable, joint: [u32; JOINT_WORDS]) -> [u64; OUT
 // Works the joint of some numbers, with the bolt table that is in force.
 pub fn compare_working(table: &BoltTable, joint: &[u64], answer: &[u64]) -> Result<(), Difference> {
     let should = in_long_form::<OUTCOME_NUMBERS>(answer, SHORT_OUTCOME)?;
-    compare(&worked_numbers(table, joint_words(joint)?), &should)
+    compare(&worked_numbers(table, &joint_words(joint)?), &should)
 }
 
-pub fn run(items: &mut Items) -> Result<(), Difference> {
-    let sides = items.sides()?;
+pub fn run(items: &mut Items, sides: &mut Sides) -> Result<(), Difference> {
+    items.sides(sides)?;
     compare_working(&bolttable::built_in(), &sides.given, &sides.answer)
 }

@@ -5,7 +5,7 @@
 // it is.
 use crate::compare::{Difference, compare, hold};
 use crate::joints::{SHORT_JOINT, SHORT_OUTCOME, joint_words, worked_numbers};
-use crate::reader::{Items, put_words};
+use crate::reader::{Items, Sides, put_words};
 use bolttable::built_in;
 use words::joints::JOINT_WORDS;
 
@@ -64,10 +64,10 @@ struct Cell {
 
 impl Cell {
     // Works the line's joint, and takes the number at the line's place, counted from 1.
-    fn read(items: &mut Items) -> Result<Cell, Difference> {
-        let sides = items.sides()?;
+    fn read(items: &mut Items, sides: &mut Sides) -> Result<Cell, Difference> {
+        items.sides(sides)?;
         let ([_, count, printed, tolerance, place], joint) = head_and_joint::<5>(&sides.given)?;
-        let numbers = worked_numbers(&built_in(), joint);
+        let numbers = worked_numbers(&built_in(), &joint);
         compare(&numbers[..SHORT_OUTCOME], &sides.answer)?;
         let worked = (place as usize)
             .checked_sub(1)
@@ -94,14 +94,14 @@ impl Cell {
 }
 
 // A cell: what Work gives is near the printed figure.
-pub fn run_cell(items: &mut Items) -> Result<(), Difference> {
-    let cell = Cell::read(items)?;
+pub fn run_cell(items: &mut Items, sides: &mut Sides) -> Result<(), Difference> {
+    let cell = Cell::read(items, sides)?;
     hold(cell.is_near(), cell.off_print())
 }
 
 // An exception: what Work gives is known not to be near it. The two ask for a thing and its contrary, and share all else.
-pub fn run_exception(items: &mut Items) -> Result<(), Difference> {
-    let cell = Cell::read(items)?;
+pub fn run_exception(items: &mut Items, sides: &mut Sides) -> Result<(), Difference> {
+    let cell = Cell::read(items, sides)?;
     hold(!cell.is_near(), cell.off_print())
 }
 
@@ -109,12 +109,12 @@ pub fn run_exception(items: &mut Items) -> Result<(), Difference> {
 fn bolts_under(joint: [u32; JOINT_WORDS], shear: u32) -> u64 {
     let mut loaded = joint;
     loaded[SHEAR] = shear;
-    worked_numbers(&built_in(), loaded)[BOLTS]
+    worked_numbers(&built_in(), &loaded)[BOLTS]
 }
 
 // The bolts' verdicts under the least and the greatest shear force that so many of a printed capacity stand for.
-pub fn run_shear(items: &mut Items) -> Result<(), Difference> {
-    let sides = items.sides()?;
+pub fn run_shear(items: &mut Items, sides: &mut Sides) -> Result<(), Difference> {
+    items.sides(sides)?;
     let ([_, count, printed, tolerance], joint) = head_and_joint::<4>(&sides.given)?;
     let figure = Figure {
         count,

@@ -6,7 +6,7 @@ ghost use Rattle.words.specs.Results.{face_word_count, outcome_word_count, check
 ghost use Rattle.words.specs.Results.{outcome_words};
 
 use governing::CompressionCheck;
-use outcome::{FaceResult, Worked};
+use outcome::{FaceResult, JointRefusal, Worked};
 
 // The words after the forces, all of a face's, and all of a joint's.
 const FIGURE_WORDS: usize = 9;
@@ -55,7 +55,7 @@ fn put_result(of_face: &FaceResult, words: &mut [u64])
 }
 
 // Puts the words of a joint's only face at the front of a slice, and 0 for a second face and for the panel. How many forces a face has is
-// promised by each of these three, since of a face behind a reference a caller isn't told.
+// promised by each of these four, since of a face behind a reference a caller isn't told.
 pub fn put_one_face(of_face: &FaceResult, words: &mut [u64])
     requires { outcome_word_count ≤ length words.old }
     ensures forces_len { length of_face.now.forces ≡ 8 }
@@ -66,8 +66,8 @@ pub fn put_one_face(of_face: &FaceResult, words: &mut [u64])
     words[FACE_WORDS..OUTCOME_WORDS].fill(0);
 }
 
-// Puts the words of what a joint comes to at the front of a slice.
-pub fn put_outcome(worked: &Worked, words: &mut [u64])
+// Puts the words of a joint that isn't refused at the front of a slice.
+pub fn put_worked(worked: &Worked, words: &mut [u64])
     requires { outcome_word_count ≤ length words.old }
     ensures forces_len { (length worked.now.result.forces ≡ 8) × (length (second_result worked.now.second).forces ≡ 8) }
     ensures words_after { words.new ≡ at_front (outcome_words (outcome_meaning (Ok worked.now))) words.old }
@@ -79,5 +79,19 @@ pub fn put_outcome(worked: &Worked, words: &mut [u64])
             put_result(&second.result, &mut words[FACE_WORDS..2 * FACE_WORDS]);
             words[2 * FACE_WORDS] = u64::from(second.panel_passes);
         }
+    }
+}
+
+// Puts the words of what any joint comes to at the front of a slice: of a refused one they are 0, as no face of it has a figure. The
+// exported calls put nothing of a refusal, and ask `put_worked`.
+pub fn put_outcome(outcome: &Result<Worked, JointRefusal>, words: &mut [u64])
+    requires { outcome_word_count ≤ length words.old }
+    ensures forces_len { (length (outcome_meaning outcome.now).result.forces ≡ 8)
+        × (length (outcome_meaning outcome.now).other.forces ≡ 8) }
+    ensures words_after { words.new ≡ at_front (outcome_words (outcome_meaning outcome.now)) words.old }
+{
+    match outcome {
+        Ok(worked) => put_worked(worked, words),
+        Err(_) => words[..OUTCOME_WORDS].fill(0),
     }
 }

@@ -12,11 +12,11 @@ work_with-requires c = rw c.area_of-area.ensures (area_in_range _ _)
 
 pub returns : goal.returns
 returns c =
-    let eight = c.put_outcome.ensures.forces_len in
+    let eight = c.put_worked.ensures.forces_len in
     record {
       equals = search rules;
       demand =
-          rw c.put_outcome.ensures.words_after
+          rw c.put_worked.ensures.words_after
           (demand_words c.args.res.now (table_of_words c.args.table.words.now) (joint_of_words c.args.fields.words.now) (outcome_meaning (Ok c.in_ok-worked.worked))
           eight.0 eight.1 (rw (c.area_of-area.ensures, c.lent.ensures, c.joint-joint.ensures) at c.in_ok-worked.ensures.demand));
     }
