@@ -48,12 +48,18 @@ impl<'a> TableWords<'a> {
     }
 }
 
-// Puts a table's words at the front of a slice.
+// Puts a table's words at the front of a slice. It is taken apart first: the words of the table built in are then stored as constants, and not
+// put into memory and copied from there.
 pub fn put_table(table: &BoltTable, words: &mut [u32])
     requires { table_word_count ≤ length words.old }
     ensures { words.new ≡ at_front (words_of_table table.now) words.old }
 {
-    words[0] = table.count;
-    words[1..AREAS].copy_from_slice(&table.diameters);
-    words[AREAS..TABLE_WORDS].copy_from_slice(&table.areas);
+    let BoltTable {
+        count,
+        diameters,
+        areas,
+    } = *table;
+    words[0] = count;
+    words[1..AREAS].copy_from_slice(&diameters);
+    words[AREAS..TABLE_WORDS].copy_from_slice(&areas);
 }
