@@ -16,18 +16,18 @@ pub enum Difference {
     Unreadable,
 }
 
-// What is printed after the line's number.
+// What is printed after the line's number, to the end of its line.
 impl fmt::Display for Difference {
     fn fmt<W: fmt::Write>(&self, f: &mut fmt::Formatter<W>) -> fmt::Result {
         match self {
             Difference::Item { item, is, should } => {
-                write!(f, ", item {item}: is {is}, should be {should}")
+                write!(f, ", item {item}: is {is}, should be {should}\n")
             }
-            Difference::Bytes => write!(f, ": other bytes"),
+            Difference::Bytes => write!(f, ": other bytes\n"),
             Difference::OffPrint { worked, printed } => {
-                write!(f, ": worked {worked}, printed {printed}")
+                write!(f, ": worked {worked}, printed {printed}\n")
             }
-            Difference::Unreadable => write!(f, " can't be read"),
+            Difference::Unreadable => write!(f, " can't be read\n"),
         }
     }
 }

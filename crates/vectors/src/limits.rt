@@ -1,6 +1,6 @@
 // Allocate on a line's limits: `allocate count limit .. = refusal force ..`.
 use crate::compare::{Difference, compare};
-use crate::reader::Items;
+use crate::reader::{Items, Sides};
 
 // No line has more limits.
 const MOST_LIMITS: usize = 64;
@@ -15,8 +15,8 @@ fn allocated_numbers(count: usize, limits: &[u64]) -> [u64; 9] {
     numbers
 }
 
-pub fn run(items: &mut Items) -> Result<(), Difference> {
-    let sides = items.sides()?;
+pub fn run(items: &mut Items, sides: &mut Sides) -> Result<(), Difference> {
+    items.sides(sides)?;
     let (count, limits) = sides.given.split_first().ok_or(Difference::Unreadable)?;
     if MOST_LIMITS < limits.len() {
         return Err(Difference::Unreadable);

@@ -6,8 +6,8 @@
 use compare::Difference;
 use input::{read_whole, space};
 use jointfile::FileKind;
-use progress::Progress;
-use reader::Items;
+use progress::{Output, Progress};
+use reader::{Items, Sides};
 use std::io;
 use std::io::Write;
 
@@ -26,22 +26,22 @@ const MOST_INPUT: usize = 2097152;
 const INPUT_SPACE: usize = MOST_INPUT + 1;
 
 // Runs the call that a line names.
-fn run_line(line: &[u8]) -> Result<(), Difference> {
+fn run_line(line: &[u8], sides: &mut Sides) -> Result<(), Difference> {
     let count = line.iter().take_while(|byte| **byte != b' ').count();
     let (word, after) = line.split_at(count);
     let mut items = Items::new(after);
     let items = &mut items;
     match word {
-        b"allocate" => limits::run(items),
-        b"cell" => printed::run_cell(items),
-        b"exception" => printed::run_exception(items),
-        b"load" => tables::run_load(items),
-        b"own" => tables::run_own(items),
-        b"old" => files::run_read(items, FileKind::Old),
-        b"read" => files::run_read(items, FileKind::New),
-        b"shear" => printed::run_shear(items),
-        b"work" => joints::run(items),
-        b"write" => files::run_write(items),
+        b"allocate" => limits::run(items, sides),
+        b"cell" => printed::run_cell(items, sides),
+        b"exception" => printed::run_exception(items, sides),
+        b"load" => tables::run_load(items, sides),
+        b"own" => tables::run_own(items, sides),
+        b"old" => files::run_read(items, sides, FileKind::Old),
+        b"read" => files::run_read(items, sides, FileKind::New),
+        b"shear" => printed::run_shear(items, sides),
+        b"work" => joints::run(items, sides),
+        b"write" => files::run_write(items, sides),
         _ => Err(Difference::Unreadable),
     }
 }
@@ -49,15 +49,21 @@ fn run_line(line: &[u8]) -> Result<(), Difference> {
 // The lines of the input, each by its first byte: nothing, a heading, a note, or else a vector.
 fn run_all<W: Write>(text: &[u8], out: &mut W) -> io::Result<()> {
     let mut progress = Progress::new();
+    let mut sides = Sides::new();
+    let mut out = Output {
+        out,
+        written: Ok(()),
+    };
     for line in text.split(|byte| *byte == b'\n') {
         progress.next_line();
         match line.first() {
             None | Some(b'/') => {}
-            Some(b'#') => progress.heading(out, line)?,
-            Some(_) => progress.vector(out, run_line(line))?,
+            Some(b'#') => progress.heading(&mut out, line)?,
+            Some(_) => progress.vector(&mut out, run_line(line, &mut sides))?,
         }
     }
-    progress.finish(out)
+    progress.finish(&mut out)?;
+    out.written
 }
 
 fn main(rt: HostRuntime) {

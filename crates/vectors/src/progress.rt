@@ -3,6 +3,31 @@ use crate::compare::Difference;
 use std::io;
 use std::io::Write;
 
+// An output of which every piece is tried, whatever came of those before it; the first failure is kept.
+#[derive(Drop)]
+pub struct Output<'a, W> {
+    pub out: &'a mut W,
+    pub written: io::Result<()>,
+}
+
+impl<W: Write> Write for Output<'_, W> {
+    fn write(&mut self, bytes: &[u8]) -> io::Result<usize> {
+        self.out.write(bytes)
+    }
+
+    fn flush(&mut self) -> io::Result<()> {
+        self.out.flush()
+    }
+
+    fn write_all(&mut self, bytes: &[u8]) -> io::Result<()> {
+        let told = self.out.write_all(bytes);
+        if self.written.is_ok() {
+            self.written = told;
+        }
+        Ok(())
+    }
+}
+
 // Vectors that ran, and those of them that came out as expected.
 #[derive(Clone, Copy)]
 struct Counts {
@@ -66,7 +91,7 @@ impl Progress {
         self.all.add(found.is_ok());
         if let Err(difference) = found {
             let line = self.line;
-            writeln!(out, "  line {line}{difference}")?;
+            write!(out, "  line {line}{difference}")?;
         }
         Ok(())
     }

@@ -2,12 +2,11 @@
 // be read is told.
 use crate::compare::{Difference, hold};
 use arrayvec::ArrayVec;
-use std::str;
 
 // A side of a line has no more numbers: those of a table and of a joint. And none has more bytes.
 pub type Numbers = ArrayVec<u64, 91>;
 
-pub type Bytes = ArrayVec<u8, 512>;
+pub const MOST_BYTES: usize = 512;
 
 // What of a line is still to be read.
 #[derive(Clone, Copy)]
@@ -15,11 +14,20 @@ pub struct Items<'a> {
     left: &'a [u8],
 }
 
-// The numbers on the two sides of a line's ` =`.
+// The numbers on the two sides of a line's ` =`. Made once and lent to each line.
 #[derive(Drop)]
 pub struct Sides {
     pub given: Numbers,
     pub answer: Numbers,
+}
+
+impl Sides {
+    pub fn new() -> Sides {
+        Sides {
+            given: Numbers::new(),
+            answer: Numbers::new(),
+        }
+    }
 }
 
 impl<'a> Items<'a> {
@@ -47,80 +55,88 @@ impl<'a> Items<'a> {
         hold(ends, Difference::Unreadable)
     }
 
-    // The number whose digits stand next. Cut off as the bytes below are: over a closure for the test the cut isn't proved to be within.
-    fn digits(&mut self) -> Option<u64> {
-        let count = self
-            .left
-            .iter()
-            .take_while(|byte| byte.is_ascii_digit())
-            .count();
-        let (digits, left) = self.left.split_at(count);
-        self.left = left;
-        str::from_utf8(digits).ok()?.parse().ok()
-    }
-
-    // The number after the space that stands next. One below 0, down to -2147483648, is read as its two's complement in 32 bits.
+    // The number after the space that stands next.
     pub fn number(&mut self) -> Option<u64> {
-        if !self.pass(b" ") {
-            return None;
-        }
-        if !self.pass(b"-") {
-            return self.digits();
-        }
-        let below = self.digits()?;
-        if 2147483648 < below {
-            return None;
-        }
-        Some(4294967296 - below)
+        let (number, left) = number_at(self.left)?;
+        self.left = left;
+        Some(number)
     }
 
-    // The numbers that stand next, as many as there are and have a place.
-    pub fn numbers(&mut self) -> Numbers {
-        let mut numbers = Numbers::new();
+    // Takes up the numbers that stand next, as many as there are and have a place.
+    pub fn numbers(&mut self, numbers: &mut Numbers) {
+        numbers.clear();
+        let mut left = self.left;
         for _ in 0..numbers.capacity() {
-            let mut ahead = *self;
-            let Some(number) = ahead.number() else {
+            let Some((number, after)) = number_at(left) else {
                 break;
             };
             if numbers.try_push(number).is_err() {
                 break;
             }
-            *self = ahead;
+            left = after;
         }
-        numbers
+        self.left = left;
     }
 
-    // The numbers of a line that has nothing else on either side.
-    pub fn sides(&mut self) -> Result<Sides, Difference> {
-        let given = self.numbers();
+    // Takes up the numbers of a line that has nothing else on either side.
+    pub fn sides(&mut self, sides: &mut Sides) -> Result<(), Difference> {
+        self.numbers(&mut sides.given);
         self.equals()?;
-        let answer = self.numbers();
-        self.end()?;
-        Ok(Sides { given, answer })
+        self.numbers(&mut sides.answer);
+        self.end()
     }
 
-    // The bytes after the space that stands next; `-` stands for none.
-    pub fn bytes(&mut self) -> Result<Bytes, Difference> {
+    // The bytes after the space that stands next, in the front of a lent space; `-` stands for none.
+    pub fn bytes<'b>(&mut self, space: &'b mut [u8; MOST_BYTES]) -> Result<&'b [u8], Difference> {
         if !self.pass(b" ") {
             return Err(Difference::Unreadable);
         }
-        let mut bytes = Bytes::new();
         if self.pass(b"-") {
-            return Ok(bytes);
+            return Ok(&[]);
         }
         let count = self.left.iter().take_while(|byte| is_digit(**byte)).count();
         let (digits, left) = self.left.split_at(count);
         self.left = left;
-        let mut all = [0u8; 512];
-        let Some(space) = all.get_mut(..count / 2) else {
+        let Some(bytes) = space.get_mut(..count / 2) else {
             return Err(Difference::Unreadable);
         };
-        hex::decode_to_slice(digits, space).map_err(|_| Difference::Unreadable)?;
-        bytes
-            .try_extend_from_slice(space)
-            .map_err(|_| Difference::Unreadable)?;
+        hex::decode_to_slice(digits, bytes).map_err(|_| Difference::Unreadable)?;
         Ok(bytes)
     }
+}
+
+// The number after the space that a text begins with, and what is left after it. One below 0, down to -2147483648, is read as its two's
+// complement in 32 bits.
+fn number_at(text: &[u8]) -> Option<(u64, &[u8])> {
+    match text {
+        [b' ', b'-', after @ ..] => {
+            let (below, left) = digits_at(after)?;
+            if 2147483648 < below {
+                return None;
+            }
+            Some((4294967296 - below, left))
+        }
+        [b' ', after @ ..] => digits_at(after),
+        _ => None,
+    }
+}
+
+// The number whose digits a text begins with, and what is left after it. The low half of a digit's byte is its value.
+fn digits_at(text: &[u8]) -> Option<(u64, &[u8])> {
+    let mut number: u64 = 0;
+    let mut count = 0;
+    for (place, byte) in text.iter().enumerate() {
+        if !byte.is_ascii_digit() {
+            break;
+        }
+        number = number.checked_mul(10)?.checked_add(u64::from(byte & 15))?;
+        count = place + 1;
+    }
+    if count == 0 {
+        return None;
+    }
+    let (_, left) = text.split_at_checked(count)?;
+    Some((number, left))
 }
 
 // Whether a byte is a digit of a byte in hexadecimal, in lower case.

@@ -2,7 +2,7 @@
 // the table T in force.
 use crate::compare::{Difference, compare};
 use crate::joints;
-use crate::reader::{Items, put_numbers, put_words};
+use crate::reader::{Items, Sides, put_numbers, put_words};
 use bolttable::BoltTable;
 use words::tables::{TABLE_WORDS, TableWords, put_table};
 
@@ -32,14 +32,14 @@ fn table_from(numbers: &[u64]) -> Result<BoltTable, Difference> {
     Ok(TableWords { words: &words }.table())
 }
 
-pub fn run_load(items: &mut Items) -> Result<(), Difference> {
-    let sides = items.sides()?;
+pub fn run_load(items: &mut Items, sides: &mut Sides) -> Result<(), Difference> {
+    items.sides(sides)?;
     let table = table_from(&sides.given)?;
     compare(&loaded_numbers(&table), &sides.answer)
 }
 
-pub fn run_own(items: &mut Items) -> Result<(), Difference> {
-    let sides = items.sides()?;
+pub fn run_own(items: &mut Items, sides: &mut Sides) -> Result<(), Difference> {
+    items.sides(sides)?;
     let (table, joint) = sides
         .given
         .split_at_checked(TABLE_WORDS)
