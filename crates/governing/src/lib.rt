@@ -61,6 +61,7 @@ pub fn governing_check(panel_counts: bool, resistances: Resistances) -> Compress
 
 // The tension cap in newtons, or none, which is refusal 15: N is above the governing force. It is called for a face whose fields are in
 // range.
+#[tactic(auto, unfolding(crate::specs::Answers::cap_case, crate::specs::Cap::over_compressed, crate::specs::Cap::tension_cap))]
 pub fn tension_cap(force: u64, loads: Loads) -> Option<u64>
     requires { (force ≤ most_bearing) × LoadsInRange loads }
     ensures { result ≡ cap_case loads force }

@@ -3,7 +3,7 @@
 // lines, which shows that there is room for what it hands over.
 #![tactic(auto)]
 
-mod number;
+pub mod number;
 
 ghost use Rattle.std.specs.Prelude.{map, ◌∷◌, [], ◌++◌, length, ℕ, List};
 ghost use Rattle.buffers.specs.Writing.{Puts, HasRoom};
