@@ -1,7 +1,7 @@
 // Work on a line's joint: `work J = refusal field R`, and with a second face `work J = refusal field R R panel face`; after the table of an
 // `own` line the same.
 use crate::compare::{Difference, compare};
-use crate::reader::{Items, Sides, in_long_form, put_words};
+use crate::reader::{Items, Sides, hold_form, in_long_form, put_words};
 use bolttable::BoltTable;
 use words::joints::{JOINT_WORDS, JointWords};
 use words::results::{FACE_WORDS, OUTCOME_WORDS, put_outcome};
@@ -16,9 +16,7 @@ pub const SHORT_OUTCOME: usize = FACE_WORDS + 2;
 
 // The words of a line's joint, in either form.
 pub fn joint_words(numbers: &[u64]) -> Result<[u32; JOINT_WORDS], Difference> {
-    if numbers.len() != SHORT_JOINT && numbers.len() != JOINT_WORDS {
-        return Err(Difference::Unreadable);
-    }
+    hold_form(numbers.len(), SHORT_JOINT, JOINT_WORDS)?;
     let mut words = [0u32; JOINT_WORDS];
     put_words(numbers, &mut words)?;
     Ok(words)

@@ -3,7 +3,8 @@ use crate::compare::Difference;
 use std::io;
 use std::io::Write;
 
-// An output of which every piece is tried, whatever came of those before it; the first failure is kept.
+// An output of which every piece is tried, whatever came of those before it; the first failure is kept. All that is printed goes by
+// `write_all`.
 #[derive(Drop)]
 pub struct Output<'a, W> {
     pub out: &'a mut W,

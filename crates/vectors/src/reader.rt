@@ -159,14 +159,17 @@ pub fn put_numbers(words: &[u32], numbers: &mut [u64]) {
     }
 }
 
+// That so many numbers are those of the short form or of the long one.
+pub fn hold_form(count: usize, short: usize, long: usize) -> Result<(), Difference> {
+    hold(count == short || count == long, Difference::Unreadable)
+}
+
 // Numbers of the short form or of the long one, whose places past the short form's are then 0.
 pub fn in_long_form<const LONG: usize>(
     numbers: &[u64],
     short: usize,
 ) -> Result<[u64; LONG], Difference> {
-    if numbers.len() != short && numbers.len() != LONG {
-        return Err(Difference::Unreadable);
-    }
+    hold_form(numbers.len(), short, LONG)?;
     let mut long = [0; LONG];
     for (place, number) in long.iter_mut().zip(numbers) {
         *place = *number;
